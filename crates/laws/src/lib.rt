@@ -1,0 +1,1 @@
+// Theorems about the written rules, in proofs/. No code.

@@ -1,0 +1,45 @@
+-- Document 01, "Find", in both forms.
+use Prim.Native.Nat.{ℕ}
+use mathlib.Core.Bool.{cond}
+use mathlib.Core.List.{List, []}
+use mathlib.Core.Option.{Option, none, some}
+use lib.ListN.{take, drop}
+use Rattle.rules.specs.declared.Entry.{Entry}
+use Rattle.rules.specs.declared.Facts.{Facts}
+use Rattle.rules.specs.declared.Checked.{Checked}
+use Rattle.rules.specs.declared.Checked.the-variants.{Accepted, Refused}
+use Rattle.rules.specs.declared.Refusal.the-variants.{Tag, None}
+use Rattle.rules.specs.declared.Found.{Found}
+use Rattle.rules.specs.declared.Found.the-variants as found
+use Rattle.rules.specs.declared.FindAnswer.{FindAnswer}
+use Rattle.rules.specs.Entries.{dataOffset, entriesOf, occurrence}
+use Rattle.rules.specs.Refusals.{numberOf, refusesTag}
+use Rattle.rules.specs.Check.{check}
+
+-- "It answers the data's offset and size"; 13: no such occurrence of the tag
+abbrev pub foundAt : Option Entry → Found
+foundAt (some e) = found.At (dataOffset e) (e .«data_size»)
+foundAt none = found.Refused None
+
+-- a refused check ends the call there
+abbrev pub afterCheck : Checked → Found → Found
+afterCheck (Accepted f) x = x
+afterCheck (Refused r) x = found.Refused r
+
+-- occurrence n of a tag, after checks 1 to 8 and 9
+unfoldable pub find : List ℕ → ℕ → ℕ → ℕ → Found
+find a base tag n =
+    afterCheck (check a base) (cond (refusesTag tag) (found.Refused Tag) (foundAt (occurrence tag n (entriesOf a))))
+
+-- the second form: the data itself; "when refused, or for an entry without data, it hands back the empty part"
+abbrev pub partAt : List ℕ → Found → List ℕ
+partAt a (found.At offset size) = take size (drop offset a)
+partAt a (found.Refused r) = []
+
+unfoldable pub findData : List ℕ → ℕ → ℕ → ℕ → List ℕ
+findData a base tag n = partAt a (find a base tag n)
+
+-- the answer in numbers
+unfoldable pub findAnswer : Found → FindAnswer
+findAnswer (found.At offset size) = record { number = 0; offset = offset; size = size }
+findAnswer (found.Refused r) = record { number = numberOf r; offset = 0; size = 0 }

@@ -1,0 +1,18 @@
+-- The written rules of document 01, one file for each part of it, in its order. Read them in the order of these lines.
+-- The words for bytes (field, leBytes, xor, splice) are those of wire's specs/Bytes.antt.
+pub mod Area
+pub mod Header
+pub mod Entries
+pub mod Checksum
+pub mod Refusals
+pub mod Tags
+pub mod Check
+pub mod Find
+pub mod Outcome
+pub mod Create
+pub mod Add
+pub mod AddAligned
+pub mod Void
+pub mod Relocate
+pub mod Edit
+pub mod Demand3

@@ -1,0 +1,104 @@
+-- Document 01, "When a call is turned away": the fourteen refusals, each with its number and exactly when it comes.
+-- 8 ENTRY is the walk's (Entries), 13 NONE and 14 ROOM are each operation's own.
+use Prim.Native.Nat.{ℕ, _+_}
+use mathlib.Core.Bool.{Bool, not, _&&_, _||_}
+use mathlib.Core.List.{List}
+use lib.ListN.{length}
+use lib.Dec.{leb, ltb, eqb}
+use Rattle.rules.specs.declared.Refusal.{Refusal}
+use Rattle.rules.specs.declared.Refusal.the-variants.{
+  Area,
+  Short,
+  Signature,
+  Version,
+  Readonly,
+  Sizes,
+  Checksum,
+  Entry,
+  Tag,
+  Shape,
+  Align,
+  Target,
+  None,
+  Room,
+}
+use Rattle.rules.specs.Area.{align8, multiple8, usable, maxLength, maxAlignment, maxAddress}
+use Rattle.rules.specs.Header.{headerOf, headerSize, currentVersion, leastAlignment, signature}
+use Rattle.rules.specs.Entries.{wrongHeaderSize}
+use Rattle.rules.specs.Checksum.{checksumHolds}
+use Rattle.rules.specs.declared.Header.{Header}
+
+-- the table's numbers and names
+abbrev pub numberOf : Refusal → ℕ
+numberOf Area = 1
+numberOf Short = 2
+numberOf Signature = 3
+numberOf Version = 4
+numberOf Readonly = 5
+numberOf Sizes = 6
+numberOf Checksum = 7
+numberOf (Entry at) = 8
+numberOf Tag = 9
+numberOf Shape = 10
+numberOf Align = 11
+numberOf Target = 12
+numberOf None = 13
+numberOf Room = 14
+
+-- 1: the area is not usable
+abbrev pub refusesArea : ℕ → ℕ → Bool
+refusesArea base len = not (usable base len)
+
+-- 2: L is under 24; for create, L is 24 or less
+abbrev pub refusesShort : ℕ → Bool
+refusesShort len = ltb len headerSize
+
+abbrev pub refusesShortCreate : ℕ → Bool
+refusesShortCreate len = leb len headerSize
+
+-- 3: the signature differs
+abbrev pub refusesSignature : Header → Bool
+refusesSignature h = not (eqb (h .signature) signature)
+
+-- 4: version is 0
+abbrev pub refusesVersion : Header → Bool
+refusesVersion h = eqb (h .version) 0
+
+-- 5: version is over 1 and the call is add, add aligned, void or relocate
+abbrev pub refusesReadonly : Bool → Header → Bool
+refusesReadonly editing h = editing && ltb currentVersion (h .version)
+
+-- the range of alignments
+abbrev pub outsideAlignment : ℕ → Bool
+outsideAlignment a = ltb a leastAlignment || ltb maxAlignment a
+
+-- 6: hdr_size is not 24 (version 1) or is under 24 (above); alignment is outside 3 to 12; used or total is no multiple of 8; used
+-- is under align8(hdr_size); used exceeds total; total exceeds L
+abbrev pub refusesSizes : Header → ℕ → Bool
+refusesSizes h len =
+    wrongHeaderSize (h .version) headerSize (h .«hdr_size»)
+    || outsideAlignment (h .alignment)
+    || not (multiple8 (h .«used_size»))
+    || not (multiple8 (h .«total_size»))
+    || ltb (h .«used_size») (align8 (h .«hdr_size»))
+    || ltb (h .«total_size») (h .«used_size»)
+    || ltb len (h .«total_size»)
+
+-- 7: the checksum rule is broken
+abbrev pub refusesChecksum : List ℕ → Bool
+refusesChecksum a = not (checksumHolds a)
+
+-- 9: tag is 0 or over 0xffffff; for both adds also 0x800000 to 0xffefff
+abbrev pub refusesTag : ℕ → Bool
+refusesTag tag = eqb tag 0 || ltb 0xffffff tag
+
+abbrev pub refusesTagAdd : ℕ → Bool
+refusesTagAdd tag = refusesTag tag || leb 0x800000 tag && leb tag 0xffefff
+
+-- 11: aligned add with exponent outside 3 to 12
+abbrev pub refusesAlign : ℕ → Bool
+refusesAlign exponent = outsideAlignment exponent
+
+-- 12: target base + target length exceeds 2^48, or target length exceeds 65,536
+abbrev pub refusesTarget : ℕ → ℕ → Bool
+refusesTarget base len = ltb maxAddress (base + len) || ltb maxLength len

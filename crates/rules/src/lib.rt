@@ -1,0 +1,156 @@
+// The declared types of a transfer list and of the answers about it. The written rules are in specs/; nothing here does the work.
+ghost use mathlib.Core.Path.{_≡_};
+ghost use Rattle.rules.specs.Header.{freshHeader};
+ghost use Rattle.rules.specs.Refusals.{numberOf};
+
+// The longest area and the longest target, in bytes.
+pub const MAX_LENGTH: usize = 65536;
+
+// The largest alignment, as a power of two's exponent.
+pub const MAX_ALIGNMENT: u8 = 12;
+
+// The header of a list, field by field.
+pub struct Header {
+    pub signature: u32,
+    pub checksum: u8,
+    pub version: u8,
+    pub hdr_size: u8,
+    pub alignment: u8,
+    pub used_size: u32,
+    pub total_size: u32,
+    pub flags: u32,
+    pub reserved: u32,
+}
+
+impl Header {
+    pub const SIGNATURE: u32 = 0x4a0fb10b;
+    // The header's own numbers.
+    pub const SIZE: u8 = 24;
+
+    pub const VERSION: u8 = 1;
+
+    pub const ALIGNMENT: u8 = 3;
+
+    pub const SMALLEST_ENTRY: u8 = 8;
+
+    // The header of a new list without entries, its checksum still 0.
+    pub fn fresh(total_size: u32, has_checksum: bool) -> Header
+        ensures { λ r. ⌜ r ≡ freshHeader «total_size» «has_checksum» ⌝ }
+    {
+        Header {
+            signature: Header::SIGNATURE,
+            checksum: 0,
+            version: Header::VERSION,
+            hdr_size: Header::SIZE,
+            alignment: Header::ALIGNMENT,
+            used_size: Header::SIZE as u32,
+            total_size,
+            flags: has_checksum as u32,
+            reserved: 0,
+        }
+    }
+}
+
+// An entry as the walk meets it: where it starts, and its header's fields.
+pub struct Entry {
+    pub at: usize,
+    pub tag_id: u32,
+    pub hdr_size: u8,
+    pub data_size: u32,
+}
+
+// Why a call is turned away.
+pub enum Refusal {
+    Area,
+    Short,
+    Signature,
+    Version,
+    Readonly,
+    Sizes,
+    Checksum,
+    // With the place of the first entry that breaks a rule.
+    Entry(usize),
+    Tag,
+    Shape,
+    Align,
+    Target,
+    None,
+    Room,
+}
+
+impl Refusal {
+    // The refusal's number in the table.
+    pub fn number(self) -> u32
+        ensures { λ r. ⌜ r ≡ numberOf self ⌝ }
+    {
+        match self {
+            Refusal::Area => 1,
+            Refusal::Short => 2,
+            Refusal::Signature => 3,
+            Refusal::Version => 4,
+            Refusal::Readonly => 5,
+            Refusal::Sizes => 6,
+            Refusal::Checksum => 7,
+            Refusal::Entry(_) => 8,
+            Refusal::Tag => 9,
+            Refusal::Shape => 10,
+            Refusal::Align => 11,
+            Refusal::Target => 12,
+            Refusal::None => 13,
+            Refusal::Room => 14,
+        }
+    }
+}
+
+// What an accepted check answers.
+pub struct Facts {
+    pub version: u32,
+    pub used: u32,
+    pub total: u32,
+    pub alignment: u32,
+    pub live: u32,
+    pub voids: u32,
+}
+
+// The answer of a check.
+pub enum Checked {
+    Accepted(Facts),
+    Refused(Refusal),
+}
+
+// The answer of a find: the data's offset and size.
+pub enum Found {
+    At { offset: u32, size: u32 },
+    Refused(Refusal),
+}
+
+// The answer of create and of the edits: the total, an offset or the shift.
+pub enum Done {
+    Value(u32),
+    Refused(Refusal),
+}
+
+// The three answers in numbers: the refusal's number, 0 where accepted, and the values, all 0 where refused.
+#[repr(C)]
+pub struct CheckAnswer {
+    pub number: u32,
+    pub version: u32,
+    pub used: u32,
+    pub total: u32,
+    pub alignment: u32,
+    pub live: u32,
+    pub voids: u32,
+}
+
+#[repr(C)]
+pub struct FindAnswer {
+    pub number: u32,
+    pub offset: u32,
+    pub size: u32,
+}
+
+#[repr(C)]
+pub struct DoneAnswer {
+    pub number: u32,
+    pub value: u32,
+}

@@ -1,0 +1,112 @@
+// Numbers, exclusive or, zeros and copies on slices of bytes. Knows nothing of transfer lists.
+ghost use mathlib.Core.Path.{_≡_};
+ghost use Prim.Native.Nat.{_+_, _≤_};
+ghost use lib.ListN.{length, take, drop, replicate};
+ghost use Rattle.wire.specs.Bytes.{field, leBytes, xor, splice};
+
+fn wide(x: u8) -> u32
+    ensures { λ r. ⌜ r ≡ x ⌝ }
+{
+    x as u32
+}
+
+fn wide_u64(x: u32) -> u64
+    ensures { λ r. ⌜ r ≡ x ⌝ }
+{
+    x as u64
+}
+
+// The little-endian number of the three bytes from at on.
+pub fn read3(s: &[u8], at: usize) -> u32
+    requires { ⌜ at + 3 ≤ length (now s) ⌝ }
+    ensures { λ r. ⌜ r ≡ field (now (s .entry)) at 3 ⌝ }
+{
+    let b = at + 1;
+    let c = b + 1;
+    wide(s[at]) + 256 * (wide(s[b]) + 256 * wide(s[c]))
+}
+
+// The little-endian number of the four bytes from at on.
+pub fn read4(s: &[u8], at: usize) -> u32
+    requires { ⌜ at + 4 ≤ length (now s) ⌝ }
+    ensures { λ r. ⌜ r ≡ field (now (s .entry)) at 4 ⌝ }
+{
+    wide(s[at]) + 256 * read3(s, at + 1)
+}
+
+// The eight bytes from at on, an entry header's, as one little-endian number.
+pub fn read8(s: &[u8], at: usize) -> u64
+    requires { ⌜ at + 8 ≤ length (now s) ⌝ }
+    ensures { λ r. ⌜ r ≡ field (now (s .entry)) at 8 ⌝ }
+{
+    wide_u64(read4(s, at)) + 4294967296 * wide_u64(read4(s, at + 4))
+}
+
+// The low three bytes of n, the least first, from at on.
+pub fn write3(a: &mut [u8], at: usize, n: u32)
+    requires { ⌜ at + 3 ≤ length (now a) ⌝ }
+    ensures { λ _. ⌜ now (a .exit) ≡ splice (now (a .entry)) at (leBytes 3 n) ⌝ }
+{
+    let b = at + 1;
+    let c = b + 1;
+    a[at] = (n % 256) as u8;
+    a[b] = (n / 256 % 256) as u8;
+    a[c] = (n / 256 / 256 % 256) as u8;
+}
+
+// The four bytes of n, the least first, from at on.
+pub fn write4(a: &mut [u8], at: usize, n: u32)
+    requires { ⌜ at + 4 ≤ length (now a) ⌝ }
+    ensures { λ _. ⌜ now (a .exit) ≡ splice (now (a .entry)) at (leBytes 4 n) ⌝ }
+{
+    let d = at + 3;
+    write3(a, at, n);
+    a[d] = (n / 256 / 256 / 256 % 256) as u8;
+}
+
+// The eight bytes of n, the least first, from at on.
+pub fn write8(a: &mut [u8], at: usize, n: u64)
+    requires { ⌜ at + 8 ≤ length (now a) ⌝ }
+    ensures { λ _. ⌜ now (a .exit) ≡ splice (now (a .entry)) at (leBytes 8 n) ⌝ }
+{
+    write4(a, at, (n % 4294967296) as u32);
+    write4(a, at + 4, (n / 4294967296) as u32);
+}
+
+// The exclusive or of the n bytes from at on.
+pub fn xor_part(s: &[u8], at: usize, n: usize) -> u8
+    requires { ⌜ at + n ≤ length (now s) ⌝ }
+    ensures { λ r. ⌜ r ≡ xor (take n (drop at (now (s .entry)))) ⌝ }
+{
+    let mut x: u8 = 0;
+    let mut i: usize = 0;
+    while i < n {
+        x = x ^ s[at + i];
+        i += 1;
+    }
+    x
+}
+
+// Zero in the n bytes from at on.
+pub fn zero_part(a: &mut [u8], at: usize, n: usize)
+    requires { ⌜ at + n ≤ length (now a) ⌝ }
+    ensures { λ _. ⌜ now (a .exit) ≡ splice (now (a .entry)) at (replicate n 0) ⌝ }
+{
+    let mut i: usize = 0;
+    while i < n {
+        a[at + i] = 0;
+        i += 1;
+    }
+}
+
+// The bytes of src from at on.
+pub fn copy_part(a: &mut [u8], at: usize, src: &[u8])
+    requires { ⌜ at + length (now src) ≤ length (now a) ⌝ }
+    ensures { λ _. ⌜ now (a .exit) ≡ splice (now (a .entry)) at (now (src .entry)) ⌝ }
+{
+    let mut i: usize = 0;
+    while i < src.len() {
+        a[at + i] = src[i];
+        i += 1;
+    }
+}

@@ -1,0 +1,433 @@
+//! A seeded source of lists of every kind: whole ones made by rows of edits, whole ones laid out by
+//! hand (later versions, longer headers, odd flags, padding that is not 0), damaged ones, cut ones,
+//! ones at bad addresses, and noise.
+
+use crate::model::{self, align8, field, put_u32, ADDRESS_END, LONGEST_AREA, SIGNATURE_WORD};
+use crate::rng::Rng;
+
+/// A list as it is lent: the bytes of the area and the stated base address.
+pub struct List {
+    pub area: Vec<u8>,
+    pub base: u64,
+}
+
+/// An entry as it stands in the bytes, sound or not.
+pub struct Row {
+    pub place: usize,
+    pub tag_id: u32,
+    pub hdr_size: u8,
+    pub data_size: u32,
+}
+
+/// A list of any kind.
+pub fn any(rng: &mut Rng) -> List {
+    let mut list = match rng.below(16) {
+        0..=6 => edited(rng),
+        7..=10 => laid_out(rng, 1),
+        11..=14 => later_version(rng),
+        _ => noise(rng),
+    };
+    if rng.once_in(2) {
+        spoil(rng, &mut list);
+        if rng.once_in(4) {
+            spoil(rng, &mut list);
+        }
+    }
+    list
+}
+
+fn spoil(rng: &mut Rng, list: &mut List) {
+    match rng.below(5) {
+        0..=2 => damage(rng, &mut list.area),
+        3 => resize(rng, &mut list.area),
+        _ => list.base = bad_base(rng, list.area.len()),
+    }
+}
+
+/// The entries as far as the bytes can be followed, without asking whether they are sound.
+pub fn rows(area: &[u8]) -> Vec<Row> {
+    let mut rows = Vec::new();
+    if area.len() < 24 {
+        return rows;
+    }
+    let end = used_size(area).min(area.len() as u128);
+    let mut place = align8(area[field::HDR_SIZE] as u128);
+    while place + 8 <= end {
+        let row = row_at(area, place as usize);
+        let stretch = align8(row.hdr_size as u128 + row.data_size as u128);
+        rows.push(row);
+        if stretch == 0 {
+            break;
+        }
+        place += stretch;
+    }
+    rows
+}
+
+fn row_at(area: &[u8], place: usize) -> Row {
+    Row {
+        place,
+        tag_id: word(area, place) & 0xff_ffff,
+        hdr_size: area[place + 3],
+        data_size: word(area, place + 4),
+    }
+}
+
+/// The field used_size as it stands; the area holds a header.
+pub fn used_size(area: &[u8]) -> u128 {
+    word(area, field::USED_SIZE) as u128
+}
+
+/// The field total_size as it stands; the area holds a header.
+pub fn total_size(area: &[u8]) -> u128 {
+    word(area, field::TOTAL_SIZE) as u128
+}
+
+fn word(area: &[u8], offset: usize) -> u32 {
+    u32::from_le_bytes([area[offset], area[offset + 1], area[offset + 2], area[offset + 3]])
+}
+
+/// Puts the checksum right by the other fields as they stand.
+fn restore_checksum(area: &mut [u8]) {
+    area[field::CHECKSUM] = 0;
+    if word(area, field::FLAGS) & 1 != 0 {
+        let used = used_size(area).min(area.len() as u128) as usize;
+        area[field::CHECKSUM] = area[..used].iter().fold(0, |sum, byte| sum ^ byte);
+    }
+}
+
+// Sizes and addresses.
+
+/// A length for the area: mostly small, now and then at the limit.
+fn area_len(rng: &mut Rng) -> usize {
+    let len = match rng.below(400) {
+        0 => rng.range(LONGEST_AREA as u64 - 16, LONGEST_AREA as u64),
+        1..=20 => rng.range(256, 2048),
+        21..=40 => rng.range(0, 40),
+        _ => rng.range(25, 256),
+    };
+    len as usize
+}
+
+/// A base that makes an area of `len` bytes usable: low, high, anywhere, or the highest one.
+fn good_base(rng: &mut Rng, len: usize) -> u64 {
+    let highest = (ADDRESS_END as u64 - len as u64) / 8 * 8;
+    match rng.below(8) {
+        0 => 0,
+        1 => 8,
+        2 => highest,
+        3 => highest - 8 * rng.below(512),
+        4 | 5 => 0x1000,
+        _ => rng.below(highest / 8) * 8,
+    }
+}
+
+/// A base that makes the area unusable, or just does not.
+fn bad_base(rng: &mut Rng, len: usize) -> u64 {
+    let len = len as u64;
+    let end = ADDRESS_END as u64;
+    match rng.below(9) {
+        0 => rng.below(end) | rng.range(1, 7),
+        1 => rng.range(1, 7),
+        2 => (end - len) / 8 * 8 + 8,
+        3 => (end - len) | rng.range(0, 7),
+        4 => end - rng.below(len + 16),
+        5 => end.wrapping_add(8 * rng.below(1 << 20)),
+        6 => u64::MAX - rng.below(16),
+        7 => 0u64.wrapping_sub(len / 8 * 8),
+        _ => rng.word() / 8 * 8,
+    }
+}
+
+// Whole lists.
+
+/// A list made by create and a row of the model's own edits.
+fn edited(rng: &mut Rng) -> List {
+    let len = area_len(rng);
+    let mut list = List { area: rng.bytes(len), base: good_base(rng, len) };
+    model::create(&mut list.area, list.base, !rng.once_in(4));
+    for _ in 0..rng.below(12) {
+        edit(rng, &mut list);
+    }
+    list
+}
+
+fn edit(rng: &mut Rng, list: &mut List) {
+    let tag = rng.range(1, 4) as u32;
+    let bits = rng.range(0, if list.area.len() > 4096 { 15 } else { 7 });
+    let length = rng.below(1 << bits) as usize;
+    let data = rng.bytes(length);
+    match rng.below(12) {
+        0..=2 => model::add(&mut list.area, list.base, tag, &data, false),
+        3..=5 => model::add(&mut list.area, list.base, tag, &data, true),
+        6 | 7 => model::add_aligned(&mut list.area, list.base, tag, &data, good_exponent(rng)),
+        8..=10 => model::void(&mut list.area, list.base, tag, rng.below(3)),
+        _ => return move_away(rng, list),
+    };
+}
+
+/// An exponent from 3 to 12, the small ones more often.
+pub fn good_exponent(rng: &mut Rng) -> u32 {
+    let highest = rng.pick(&[4, 5, 6, 8, 12]);
+    rng.range(3, highest) as u32
+}
+
+/// Relocates the list, where there is room for it.
+fn move_away(rng: &mut Rng, list: &mut List) {
+    let len = list.area.len() + rng.below(128) as usize;
+    let target_base = rng.below(1 << 20) + good_base(rng, LONGEST_AREA) / 2;
+    let mut target = rng.bytes(len);
+    let done = model::relocate(&list.area, list.base, &mut target, target_base);
+    if done.number == 0 {
+        list.area = target.split_off(done.value as usize);
+        list.base = target_base + done.value as u64;
+    }
+}
+
+/// A whole list of the given version, laid out byte by byte.
+fn laid_out(rng: &mut Rng, version: u8) -> List {
+    let mut area = laid_out_header(rng, version);
+    let limit = area_len(rng);
+    let most = if limit > 4096 { 10_000 } else { rng.below(12) };
+    for _ in 0..most {
+        let entry = laid_out_entry(rng, version);
+        if area.len() + entry.len() <= limit {
+            area.extend(entry);
+        }
+    }
+    let used = area.len();
+    let total = used + spare(rng).min((LONGEST_AREA - used) / 8 * 8);
+    let len = total + rng.pick(&[0, 0, 1, 7, 8, 40]).min(LONGEST_AREA - total);
+    area.extend(rng.bytes(len - used));
+    put_u32(&mut area, field::USED_SIZE, used as u32);
+    put_u32(&mut area, field::TOTAL_SIZE, total as u32);
+    restore_checksum(&mut area);
+    List { base: good_base(rng, len), area }
+}
+
+fn later_version(rng: &mut Rng) -> List {
+    let version = match rng.below(4) {
+        0 => 2,
+        1 => 255,
+        _ => rng.range(2, 255) as u8,
+    };
+    laid_out(rng, version)
+}
+
+/// Free bytes between used_size and total_size, a multiple of 8.
+fn spare(rng: &mut Rng) -> usize {
+    let words = match rng.below(3) {
+        0 => rng.below(3),
+        1 => rng.below(16),
+        _ => rng.below(64),
+    };
+    8 * words as usize
+}
+
+/// The header and what stands between it and the first entry; the sizes are put in afterwards.
+fn laid_out_header(rng: &mut Rng, version: u8) -> Vec<u8> {
+    let hdr_size = if version == 1 { 24 } else { longer_header(rng, 24) };
+    let mut area = rng.bytes(align8(hdr_size as u128) as usize);
+    put_u32(&mut area, 0, SIGNATURE_WORD);
+    area[field::VERSION] = version;
+    area[field::HDR_SIZE] = hdr_size;
+    area[field::ALIGNMENT] = good_exponent(rng) as u8;
+    put_u32(&mut area, field::FLAGS, flags(rng));
+    if rng.once_in(2) {
+        put_u32(&mut area, field::RESERVED, 0);
+    }
+    area
+}
+
+/// The flags word: has_checksum mostly, the other bits often all 0 and often not.
+fn flags(rng: &mut Rng) -> u32 {
+    let has_checksum = !rng.once_in(4) as u32;
+    let others = match rng.below(4) {
+        0 | 1 => 0,
+        2 => 2 << rng.below(31),
+        _ => rng.word() as u32 & !1,
+    };
+    others | has_checksum
+}
+
+/// A header size from `least` to 255.
+fn longer_header(rng: &mut Rng, least: u8) -> u8 {
+    match rng.below(6) {
+        0 | 1 => least,
+        2 => least + 8,
+        3 | 4 => rng.range(least as u64, least as u64 + 16) as u8,
+        _ => rng.range(least as u64, 255) as u8,
+    }
+}
+
+/// An entry with its data and its padding, which is mostly not 0.
+fn laid_out_entry(rng: &mut Rng, version: u8) -> Vec<u8> {
+    let tag_id = laid_out_tag(rng);
+    let hdr_size = if version == 1 { 8 } else { longer_header(rng, 8) };
+    let mut data_size = rng.below(1 << rng.range(0, 7)) as u32;
+    if tag_id == 0 && !rng.once_in(60) {
+        data_size = data_size / 8 * 8;
+    }
+    let mut entry = rng.bytes(align8(hdr_size as u128 + data_size as u128) as usize);
+    put_u32(&mut entry, 0, tag_id);
+    entry[3] = hdr_size;
+    put_u32(&mut entry, 4, data_size);
+    entry
+}
+
+/// Tags often alike, so that they have several occurrences; the reserved ones may stand in a list.
+fn laid_out_tag(rng: &mut Rng) -> u32 {
+    match rng.below(8) {
+        0 | 1 => 0,
+        2..=4 => rng.range(1, 4) as u32,
+        5 => rng.pick(&[5, 6, 0x100, 0x101, 0x102, 0x103, 0x104]),
+        6 => rng.pick(&[0x7f_ffff, 0x80_0000, 0xff_efff, 0xff_f000, 0xff_ffff]),
+        _ => rng.range(1, 0xff_ffff) as u32,
+    }
+}
+
+/// A buffer of noise, in part behind a signature and a version.
+fn noise(rng: &mut Rng) -> List {
+    let len = area_len(rng);
+    let mut area = rng.bytes(len);
+    if len >= 24 && rng.once_in(2) {
+        put_u32(&mut area, 0, SIGNATURE_WORD);
+        area[field::VERSION] = rng.below(3) as u8;
+    }
+    List { area, base: good_base(rng, len) }
+}
+
+// Damage.
+
+/// One byte or field changed, with the checksum mostly put right afterwards.
+fn damage(rng: &mut Rng, area: &mut [u8]) {
+    if area.len() < 24 {
+        return;
+    }
+    match rng.below(8) {
+        0 => change_byte(rng, area),
+        1..=3 => change_header(rng, area),
+        4 => change_end(rng, area),
+        _ => change_entry(rng, area),
+    }
+    if !rng.once_in(4) {
+        restore_checksum(area);
+    }
+}
+
+fn change_byte(rng: &mut Rng, area: &mut [u8]) {
+    let limit = used_size(area).clamp(24, area.len() as u128);
+    let offset = rng.below(limit as u64) as usize;
+    area[offset] ^= rng.range(1, 255) as u8;
+}
+
+fn change_header(rng: &mut Rng, area: &mut [u8]) {
+    match rng.below(9) {
+        0 => area[rng.below(4) as usize] ^= rng.range(1, 255) as u8,
+        1 => area[field::CHECKSUM] ^= rng.range(1, 255) as u8,
+        2 => area[field::VERSION] = rng.pick(&[0, 0, 1, 2, 255]),
+        3 => area[field::HDR_SIZE] = rng.pick(&[0, 8, 16, 23, 24, 25, 31, 32, 40, 255]),
+        4 => area[field::ALIGNMENT] = rng.pick(&[0, 2, 3, 12, 13, 19, 35, 67, 131, 255]),
+        5 => change_used_size(rng, area),
+        6 => change_total_size(rng, area),
+        7 => put_u32(area, field::FLAGS, rng.word() as u32),
+        _ => put_u32(area, field::RESERVED, rng.word() as u32),
+    }
+}
+
+/// used_size no multiple of 8, under the header, over total_size, or huge.
+fn change_used_size(rng: &mut Rng, area: &mut [u8]) {
+    let (used, total) = (used_size(area) as u32, total_size(area) as u32);
+    let step = rng.pick(&[1, 4, 7, 8]);
+    let value = match rng.below(6) {
+        0 => rng.pick(&[0, 8, 16, 23, 24, 25]),
+        1 => used.wrapping_add(step),
+        2 => used.wrapping_sub(step),
+        3 => total,
+        4 => total.wrapping_add(step),
+        _ => rng.pick(&[0x8000_0000, 0xffff_fff8, 0xffff_ffff]),
+    };
+    put_u32(area, field::USED_SIZE, value);
+}
+
+/// total_size no multiple of 8, under used_size, over the length, or huge.
+fn change_total_size(rng: &mut Rng, area: &mut [u8]) {
+    let (used, total) = (used_size(area) as u32, total_size(area) as u32);
+    let len = area.len() as u32;
+    let step = rng.pick(&[1, 4, 7, 8]);
+    let value = match rng.below(7) {
+        0 => used,
+        1 => used.wrapping_sub(8),
+        2 => total.wrapping_add(step),
+        3 => total.wrapping_sub(step),
+        4 => len / 8 * 8,
+        5 => len / 8 * 8 + 8,
+        _ => rng.pick(&[0, 0x8000_0000, 0xffff_fff8, 0xffff_ffff]),
+    };
+    put_u32(area, field::TOTAL_SIZE, value);
+}
+
+/// used_size moved 8 or 16 before or behind the end of the last entry; total_size follows as far
+/// as the area goes.
+fn change_end(rng: &mut Rng, area: &mut [u8]) {
+    let step = rng.pick(&[8, 16]);
+    let used = used_size(area) as u32;
+    let moved = if rng.once_in(2) { used.wrapping_add(step) } else { used.wrapping_sub(step) };
+    put_u32(area, field::USED_SIZE, moved);
+    if total_size(area) < moved as u128 && moved as usize <= area.len() {
+        put_u32(area, field::TOTAL_SIZE, moved);
+    }
+}
+
+fn change_entry(rng: &mut Rng, area: &mut [u8]) {
+    let rows = rows(area);
+    if rows.is_empty() {
+        return;
+    }
+    let row = &rows[rng.below(rows.len() as u64) as usize];
+    match rng.below(5) {
+        0 => area[row.place..row.place + 3].fill(0),
+        1 => area[row.place + 3] = rng.pick(&[0, 7, 8, 9, 16, 24, 255]),
+        _ => {
+            let value = bad_data_size(rng, area, row);
+            put_u32(area, row.place + 4, value);
+        }
+    }
+}
+
+/// A data_size that is huge, or wraps in 32 bits to another place of the list, or ends the entry
+/// at used_size, or a little before or behind it, or is a little off.
+fn bad_data_size(rng: &mut Rng, area: &[u8], row: &Row) -> u32 {
+    let start = row.place as u32 + row.hdr_size as u32;
+    let used = used_size(area) as u32;
+    let step = rng.pick(&[1, 7, 8]);
+    match rng.below(8) {
+        0 => rng.pick(&[0xffff_ffff, 0xffff_fff9, 0xffff_fff8, 0xffff_fff7, 0xffff_fff0]),
+        1 => rng.pick(&[0x7fff_ffff, 0x8000_0000, 0x1_0000, 0xffff]),
+        2 => (8 * rng.below(1 + area.len() as u64 / 8) as u32).wrapping_sub(start),
+        3 => used.wrapping_sub(start),
+        4 => used.wrapping_sub(start).wrapping_add(step),
+        5 => used.wrapping_sub(start).wrapping_sub(step),
+        6 => row.data_size.wrapping_add(step),
+        _ => row.data_size.wrapping_sub(step),
+    }
+}
+
+/// The area cut or lengthened to a length at which something changes.
+fn resize(rng: &mut Rng, area: &mut Vec<u8>) {
+    let len = match rng.below(40) {
+        0 => rng.pick(&[65_535, 65_536, 65_537]),
+        1..=19 => rng.pick(&[0, 1, 7, 8, 9, 23, 24, 25, 31, 32, 33]),
+        20..=29 if area.len() >= 24 => nearby(rng, total_size(area)),
+        _ => rng.below(area.len() as u64 + 1) as usize,
+    };
+    let longer = rng.bytes(len.saturating_sub(area.len()));
+    area.truncate(len);
+    area.extend(longer);
+}
+
+/// A length at a total_size or close to it; the field may say anything.
+fn nearby(rng: &mut Rng, total: u128) -> usize {
+    let total = total.min(4096) as usize;
+    (total + rng.pick(&[0, 7, 8, 9])).saturating_sub(8)
+}
