@@ -14,6 +14,6 @@ fn main() {
 fn library_dir() -> PathBuf {
     match env::var_os("TL_LIB_DIR") {
         Some(dir) => PathBuf::from(dir),
-        None => Path::new(env!("CARGO_MANIFEST_DIR")).join("../target/staticlib"),
+        None => Path::new(&env::var_os("CARGO_MANIFEST_DIR").unwrap()).join("../target/staticlib"),
     }
 }

@@ -2,13 +2,13 @@
 //! every buffer lent, guard bytes included.
 
 use crate::lent::{Guards, Lent};
-use crate::{library, watch};
+use crate::library;
 use oracle::lists::List;
-use oracle::model;
+use oracle::model::{self, Answer};
 use oracle::params::{self, Facts};
 use oracle::rng::Rng;
 use oracle::tally::{Call, Tally};
-use std::fmt::{Debug, Write};
+use std::fmt::Write;
 
 /// Finds per list.
 const FINDS: usize = 5;
@@ -53,61 +53,66 @@ impl Bench {
     }
 
     fn check(&mut self, list: &List) -> Result<(), String> {
-        let mut area = self.begin(Call::Check, &list.area);
+        let mut area = self.guards.lend(&list.area);
         let wanted = model::check(&list.area, list.base);
         let given = library::check(&mut area, list.base);
-        self.tally.count(Call::Check, wanted.number);
         let asked = Asked { call: Call::Check, numbers: &|| format!("base {:#x}", list.base) };
         self.judge(&asked, wanted, given, &[untouched("area", &list.area, &area)])
     }
 
     fn find(&mut self, list: &List, tag: u32, n: u64) -> Result<(), String> {
-        let mut area = self.begin(Call::Find, &list.area);
+        let mut area = self.guards.lend(&list.area);
         let wanted = model::find(&list.area, list.base, tag, n);
         let given = library::find(&mut area, list.base, tag, n);
-        self.tally.count(Call::Find, wanted.number);
         let numbers = || format!("base {:#x}, tag {tag:#x}, n {n:#x}", list.base);
         let asked = Asked { call: Call::Find, numbers: &numbers };
         self.judge(&asked, wanted, given, &[untouched("area", &list.area, &area)])
     }
 
-    /// Notes the call for the watch and lends its first buffer.
-    pub fn begin(&mut self, call: Call, area: &[u8]) -> Lent {
-        watch::call(call);
-        self.guards.lend(area)
-    }
-
-    /// A report where the answers differ or a buffer does not hold what it should.
-    pub fn judge<A>(&self, asked: &Asked, wanted: A, given: A, buffers: &[Buffer]) -> Result<(), String>
-    where
-        A: PartialEq + Debug,
-    {
-        let difference =
-            buffers.iter().find_map(|buffer| Some((buffer.name, self.guards.first_difference(buffer.lent, buffer.wanted)?)));
-        if wanted == given && difference.is_none() {
+    /// Counts the call; a report where the answers differ or a buffer does not hold what it should.
+    pub fn judge<A: Answer>(
+        &mut self,
+        asked: &Asked,
+        wanted: A,
+        given: A,
+        buffers: &[Buffer],
+    ) -> Result<(), String> {
+        self.tally.count(asked.call, wanted.number());
+        let byte = buffers.iter().find_map(|buffer| self.differing_byte(buffer));
+        if wanted == given && byte.is_none() {
             return Ok(());
         }
-        let mut report = inputs(asked, buffers);
-        write!(report, "\n  model   {wanted:?}\n  library {given:?}").unwrap();
-        if let Some((name, (place, wanted, given))) = difference {
-            write!(report, "\n  {name}, byte {place}: model {wanted:02x}, library {given:02x}").unwrap();
+        let bytes = byte.unwrap_or("every byte as wanted".to_string());
+        let inputs = asked.with_inputs(buffers);
+        Err(format!("{inputs}\n  model   {wanted:?}\n  library {given:?}\n  {bytes}"))
+    }
+
+    fn differing_byte(&self, buffer: &Buffer) -> Option<String> {
+        let (place, wanted, given) = self.guards.first_difference(buffer.lent, buffer.wanted)?;
+        Some(format!("{}, byte {place}: model {wanted:02x}, library {given:02x}", buffer.name))
+    }
+}
+
+impl Asked<'_> {
+    /// A report where the model itself does not keep demand 3.
+    #[cfg(feature = "edits")]
+    pub fn demand(&self, held: Result<(), String>, buffers: &[Buffer]) -> Result<(), String> {
+        held.map_err(|broken| format!("{}\n  {broken}", self.with_inputs(buffers)))
+    }
+
+    /// The call with all its inputs.
+    fn with_inputs(&self, buffers: &[Buffer]) -> String {
+        let mut report = format!("difference in {}\n  {}", self.call.name(), (self.numbers)());
+        for buffer in buffers {
+            write!(report, "\n  {} {}", buffer.name, hex(buffer.before)).unwrap();
         }
-        Err(report)
+        report
     }
 }
 
 /// A buffer whose bytes must stay.
 pub fn untouched<'a>(name: &'static str, bytes: &'a [u8], lent: &'a Lent) -> Buffer<'a> {
     Buffer { name, before: bytes, wanted: bytes, lent }
-}
-
-/// The call with all its inputs.
-pub fn inputs(asked: &Asked, buffers: &[Buffer]) -> String {
-    let mut report = format!("difference in {}\n  {}", asked.call.name(), (asked.numbers)());
-    for buffer in buffers {
-        write!(report, "\n  {} {}", buffer.name, hex(buffer.before)).unwrap();
-    }
-    report
 }
 
 pub fn hex(bytes: &[u8]) -> String {

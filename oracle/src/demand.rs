@@ -113,7 +113,13 @@ fn stretch_of_void(void: &Step, n: usize) -> Range<usize> {
     }
 }
 
-fn change_by_add<'a>(before: &'a [u8], after: &[u8], tag: u32, data: &'a [u8], use_voids: bool) -> Change<'a> {
+fn change_by_add<'a>(
+    before: &'a [u8],
+    after: &[u8],
+    tag: u32,
+    data: &'a [u8],
+    use_voids: bool,
+) -> Change<'a> {
     let steps = steps(before);
     let serves = |step: &Step| use_voids && step.tag == 0 && step.data.len() >= data.len();
     let taken = steps.iter().position(serves);
@@ -156,9 +162,8 @@ fn answer_holds(after: &[u8], base: u64, edit: &Edit, value: usize) -> bool {
     match *edit {
         Edit::Add { data, .. } => after[value..].starts_with(data),
         Edit::AddAligned { data, exponent, .. } => {
-            let boundary = 1 << exponent;
             after[value..].starts_with(data)
-                && (base % boundary + value as u64) % boundary == 0
+                && (base + value as u64).is_multiple_of(1 << exponent)
                 && after[7] as u32 >= exponent
         }
         Edit::Void { .. } => after[value..value + 4] == [0, 0, 0, 8],
@@ -193,8 +198,8 @@ pub fn after_relocation(moved: &Relocation) -> Result<(), String> {
     let rest_is_zero = zero(&moved.target[..shift]) && zero(&result[used(result)..]);
     demand(rest_is_zero, "every other target byte is 0")?;
     let boundary = 1 << moved.area[7];
-    let addresses_keep = data_addresses(&old_steps, moved.base, boundary)
-        == data_addresses(&new_steps, new_base, boundary);
+    let addresses_keep =
+        data_addresses(&old_steps, moved.base, boundary) == data_addresses(&new_steps, new_base, boundary);
     demand(addresses_keep, "data addresses keep their value modulo 2^alignment")
 }
 
@@ -207,4 +212,82 @@ fn used_bytes_kept(area: &[u8], result: &[u8]) -> bool {
 /// "A data address is the base plus the data's offset", here modulo 2^alignment.
 fn data_addresses(steps: &[Step], base: u64, boundary: u64) -> Vec<u64> {
     steps.iter().map(|step| (base + step.data_offset as u64) % boundary).collect()
+}
+
+#[cfg(test)]
+mod tests {
+    //! The frauds that "How tightly it is pinned" names, and some slips, do not pass.
+
+    use super::*;
+
+    const BASE: u64 = 0x1000;
+    const DATA: [u8; 3] = [0xaa, 0xbb, 0xcc];
+    const ADD: Edit = Edit::Add { tag: 2, data: &DATA, use_voids: true };
+    const VOID: Edit = Edit::Void { tag: 1, n: 0 };
+
+    /// A list with one entry whose padding is 0.
+    fn before() -> Vec<u8> {
+        let mut area = vec![0; 128];
+        model::create(&mut area, BASE, true);
+        model::add_aligned(&mut area, BASE, 1, &[1, 2, 3], 6);
+        area
+    }
+
+    fn added() -> Vec<u8> {
+        let mut area = before();
+        assert_eq!(model::add(&mut area, BASE, 2, &DATA, true).value, 32);
+        area
+    }
+
+    fn passes(after: &[u8], edit: &Edit, value: u32) -> bool {
+        after_edit(&before(), after, BASE, edit, value).is_ok()
+    }
+
+    #[test]
+    fn honest_edits_pass() {
+        assert!(passes(&added(), &ADD, 32));
+        let mut area = before();
+        let voided = model::void(&mut area, BASE, 1, 0);
+        assert!(passes(&area, &VOID, voided.value));
+    }
+
+    #[test]
+    fn an_edit_that_writes_nothing_fails() {
+        assert!(!passes(&before(), &ADD, 32));
+        assert!(!passes(&before(), &VOID, 56));
+    }
+
+    #[test]
+    fn clearing_has_checksum_fails() {
+        let mut area = added();
+        area[4] = 0;
+        area[16] = 0;
+        assert_eq!(model::check(&area, BASE).number, 0);
+        assert!(!passes(&area, &ADD, 32));
+    }
+
+    #[test]
+    fn a_checksum_left_behind_fails() {
+        let mut area = added();
+        area[4] = before()[4];
+        assert!(!passes(&area, &ADD, 32));
+    }
+
+    #[test]
+    fn a_byte_beyond_used_size_is_not_named() {
+        let mut area = added();
+        area[127] = 1;
+        assert_eq!(model::check(&area, BASE).number, 0);
+        assert!(!passes(&area, &ADD, 32));
+    }
+
+    #[test]
+    fn a_relocation_off_its_boundary_fails() {
+        let (area, mut target) = (before(), vec![0; 128]);
+        assert_eq!(model::relocate(&area, BASE, &mut target, 0x2000).value, 0);
+        let moved =
+            |target_base| Relocation { area: &area, base: BASE, target: &target, target_base, shift: 0 };
+        assert!(after_relocation(&moved(0x2000)).is_ok());
+        assert!(after_relocation(&moved(0x2008)).is_err());
+    }
 }

@@ -1,10 +1,11 @@
 //! The comparisons of create, add, add aligned and void.
 
-use crate::compare::{inputs, untouched, Asked, Bench, Buffer};
+use crate::compare::{untouched, Asked, Bench, Buffer};
+use crate::lent::Lent;
 use crate::library;
 use oracle::demand::{self, Edit};
 use oracle::lists::List;
-use oracle::model;
+use oracle::model::{self, Done};
 use oracle::params::{self, Facts};
 use oracle::rng::Rng;
 use oracle::tally::Call;
@@ -21,96 +22,95 @@ impl Bench {
         for _ in 0..ADDS {
             let tag = params::new_tag(rng);
             let length = params::data_len(rng, facts, tag, 0);
-            self.add(list, tag, &rng.bytes(length), !rng.once_in(3))?;
+            let use_voids = !rng.once_in(3);
+            self.edit(list, &Edit::Add { tag, data: &rng.bytes(length), use_voids })?;
         }
         for _ in 0..ALIGNED_ADDS {
             let tag = params::new_tag(rng);
             let exponent = params::exponent(rng);
             let length = params::data_len(rng, facts, tag, params::padding(facts, exponent));
-            self.add_aligned(list, tag, &rng.bytes(length), exponent)?;
+            self.edit(list, &Edit::AddAligned { tag, data: &rng.bytes(length), exponent })?;
         }
         for _ in 0..VOIDS {
             let (tag, n) = params::wanted(rng, facts);
-            self.void(list, tag, n)?;
+            self.edit(list, &Edit::Void { tag, n })?;
         }
         Ok(())
     }
 
     fn create(&mut self, bytes: &[u8], base: u64, has_checksum: bool) -> Result<(), String> {
-        let mut area = self.begin(Call::Create, bytes);
+        let mut area = self.guards.lend(bytes);
         let mut after = bytes.to_vec();
         let wanted = model::create(&mut after, base, has_checksum);
         let given = library::create(&mut area, base, has_checksum);
-        self.tally.count(Call::Create, wanted.number);
         let numbers = || format!("base {base:#x}, has_checksum {has_checksum}");
         let asked = Asked { call: Call::Create, numbers: &numbers };
         let buffers = [Buffer { name: "area", before: bytes, wanted: &after, lent: &area }];
         self.judge(&asked, wanted, given, &buffers)?;
         if wanted.number == 0 {
-            demanded(demand::after_create(&after, base), &asked, &buffers)?;
+            asked.demand(demand::after_create(&after, base), &buffers)?;
         }
         Ok(())
     }
 
-    fn add(&mut self, list: &List, tag: u32, bytes: &[u8], use_voids: bool) -> Result<(), String> {
-        let mut area = self.begin(Call::Add, &list.area);
-        let mut data = self.guards.lend(bytes);
+    /// An add, an aligned add or a void on a list.
+    fn edit(&mut self, list: &List, edit: &Edit) -> Result<(), String> {
+        let call = call_of(edit);
+        let mut area = self.guards.lend(&list.area);
+        let mut data = self.guards.lend(data_of(edit));
         let mut after = list.area.clone();
-        let wanted = model::add(&mut after, list.base, tag, bytes, use_voids);
-        let given = library::add(&mut area, list.base, tag, &mut data, use_voids);
-        self.tally.count(Call::Add, wanted.number);
-        let numbers = || format!("base {:#x}, tag {tag:#x}, use_voids {use_voids}", list.base);
-        let asked = Asked { call: Call::Add, numbers: &numbers };
+        let wanted = by_model(&mut after, list.base, edit);
+        let given = by_library(&mut area, list.base, edit, &mut data);
+        let numbers = || format!("base {:#x}, {}", list.base, numbers_of(edit));
+        let asked = Asked { call, numbers: &numbers };
         let buffers = [
             Buffer { name: "area", before: &list.area, wanted: &after, lent: &area },
-            untouched("data", bytes, &data),
+            untouched("data", data_of(edit), &data),
         ];
         self.judge(&asked, wanted, given, &buffers)?;
         if wanted.number == 0 {
-            let edit = Edit::Add { tag, data: bytes, use_voids };
-            let held = demand::after_edit(&list.area, &after, list.base, &edit, wanted.value);
-            demanded(held, &asked, &buffers)?;
+            let held = demand::after_edit(&list.area, &after, list.base, edit, wanted.value);
+            asked.demand(held, &buffers)?;
         }
         Ok(())
     }
+}
 
-    fn add_aligned(&mut self, list: &List, tag: u32, bytes: &[u8], exponent: u32) -> Result<(), String> {
-        let mut area = self.begin(Call::AddAligned, &list.area);
-        let mut data = self.guards.lend(bytes);
-        let mut after = list.area.clone();
-        let wanted = model::add_aligned(&mut after, list.base, tag, bytes, exponent);
-        let given = library::add_aligned(&mut area, list.base, tag, &mut data, exponent);
-        self.tally.count(Call::AddAligned, wanted.number);
-        let numbers = || format!("base {:#x}, tag {tag:#x}, exponent {exponent}", list.base);
-        let asked = Asked { call: Call::AddAligned, numbers: &numbers };
-        let buffers = [
-            Buffer { name: "area", before: &list.area, wanted: &after, lent: &area },
-            untouched("data", bytes, &data),
-        ];
-        self.judge(&asked, wanted, given, &buffers)?;
-        if wanted.number == 0 {
-            let edit = Edit::AddAligned { tag, data: bytes, exponent };
-            let held = demand::after_edit(&list.area, &after, list.base, &edit, wanted.value);
-            demanded(held, &asked, &buffers)?;
-        }
-        Ok(())
+fn call_of(edit: &Edit) -> Call {
+    match edit {
+        Edit::Add { .. } => Call::Add,
+        Edit::AddAligned { .. } => Call::AddAligned,
+        Edit::Void { .. } => Call::Void,
     }
+}
 
-    fn void(&mut self, list: &List, tag: u32, n: u64) -> Result<(), String> {
-        let mut area = self.begin(Call::Void, &list.area);
-        let mut after = list.area.clone();
-        let wanted = model::void(&mut after, list.base, tag, n);
-        let given = library::void(&mut area, list.base, tag, n);
-        self.tally.count(Call::Void, wanted.number);
-        let numbers = || format!("base {:#x}, tag {tag:#x}, n {n:#x}", list.base);
-        let asked = Asked { call: Call::Void, numbers: &numbers };
-        let buffers = [Buffer { name: "area", before: &list.area, wanted: &after, lent: &area }];
-        self.judge(&asked, wanted, given, &buffers)?;
-        if wanted.number == 0 {
-            let edit = Edit::Void { tag, n };
-            let held = demand::after_edit(&list.area, &after, list.base, &edit, wanted.value);
-            demanded(held, &asked, &buffers)?;
-        }
-        Ok(())
+fn data_of<'a>(edit: &Edit<'a>) -> &'a [u8] {
+    match *edit {
+        Edit::Add { data, .. } | Edit::AddAligned { data, .. } => data,
+        Edit::Void { .. } => &[],
+    }
+}
+
+fn numbers_of(edit: &Edit) -> String {
+    match *edit {
+        Edit::Add { tag, use_voids, .. } => format!("tag {tag:#x}, use_voids {use_voids}"),
+        Edit::AddAligned { tag, exponent, .. } => format!("tag {tag:#x}, exponent {exponent}"),
+        Edit::Void { tag, n } => format!("tag {tag:#x}, n {n:#x}"),
+    }
+}
+
+fn by_model(area: &mut [u8], base: u64, edit: &Edit) -> Done {
+    match *edit {
+        Edit::Add { tag, data, use_voids } => model::add(area, base, tag, data, use_voids),
+        Edit::AddAligned { tag, data, exponent } => model::add_aligned(area, base, tag, data, exponent),
+        Edit::Void { tag, n } => model::void(area, base, tag, n),
+    }
+}
+
+fn by_library(area: &mut Lent, base: u64, edit: &Edit, data: &mut Lent) -> Done {
+    match *edit {
+        Edit::Add { tag, use_voids, .. } => library::add(area, base, tag, data, use_voids),
+        Edit::AddAligned { tag, exponent, .. } => library::add_aligned(area, base, tag, data, exponent),
+        Edit::Void { tag, n } => library::void(area, base, tag, n),
     }
 }

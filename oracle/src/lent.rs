@@ -19,14 +19,21 @@ impl Lent {
         self.len
     }
 
-    /// Where the library finds the bytes. It may write there even where it should not, and that
-    /// must be seen; so the pointer is a mutable one for every buffer.
+    /// Where the library finds the bytes. It may write where it should not, to a buffer it only
+    /// reads or to a guard, and that must be seen; so the pointer is good for writing everywhere.
     pub fn pointer(&mut self) -> *mut u8 {
-        self.held[self.start..].as_mut_ptr()
+        self.held.as_mut_ptr().wrapping_add(self.start)
     }
 
     pub fn bytes(&mut self) -> &mut [u8] {
         &mut self.held[self.start..][..self.len]
+    }
+
+    /// Makes the buffer shorter; what is cut off belongs to the guard behind.
+    #[cfg(feature = "edits")]
+    pub fn cut(&mut self, len: usize) {
+        assert!(len <= self.len);
+        self.len = len;
     }
 
     /// A buffer of zeros between guards of zeros, however long: the system hands out its pages only
@@ -47,7 +54,8 @@ impl Lent {
 
     /// Whether buffer and guards are all zero but for `head` at the buffer's start.
     pub fn is_zero_behind(&self, head: &[u8]) -> bool {
-        let zero = |bytes: &[u8]| bytes.chunks(4096).all(|chunk| chunk.iter().fold(0, |sum, byte| sum | byte) == 0);
+        let zero_chunk = |chunk: &[u8]| chunk.iter().fold(0, |sum, byte| sum | byte) == 0;
+        let zero = |bytes: &[u8]| bytes.chunks(4096).all(zero_chunk);
         let (front, rest) = self.held.split_at(self.start);
         zero(front) && rest.starts_with(head) && zero(&rest[head.len()..])
     }

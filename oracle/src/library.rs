@@ -1,7 +1,9 @@
 //! The library under test, through its C interface.
 
 use crate::lent::Lent;
+use crate::watch;
 use oracle::model::{Checked, Found};
+use oracle::tally::Call;
 
 #[link(name = "transfer_list", kind = "static")]
 extern "C" {
@@ -13,10 +15,12 @@ extern "C" {
 // two buffers of one call are two borrowed Lents, which share no byte.
 
 pub fn check(area: &mut Lent, base: u64) -> Checked {
+    watch::call(Call::Check);
     unsafe { tl_check(area.pointer(), area.len(), base) }
 }
 
 pub fn find(area: &mut Lent, base: u64, tag: u32, n: u64) -> Found {
+    watch::call(Call::Find);
     unsafe { tl_find(area.pointer(), area.len(), base, tag, n) }
 }
 
@@ -26,7 +30,9 @@ pub use edits::{add, add_aligned, create, void};
 #[cfg(feature = "edits")]
 mod edits {
     use crate::lent::Lent;
+    use crate::watch;
     use oracle::model::Done;
+    use oracle::tally::Call;
 
     #[rustfmt::skip]
     extern "C" {
@@ -39,18 +45,22 @@ mod edits {
     }
 
     pub fn create(area: &mut Lent, base: u64, has_checksum: bool) -> Done {
+        watch::call(Call::Create);
         unsafe { tl_create(area.pointer(), area.len(), base, has_checksum) }
     }
 
     pub fn add(area: &mut Lent, base: u64, tag: u32, data: &mut Lent, use_voids: bool) -> Done {
+        watch::call(Call::Add);
         unsafe { tl_add(area.pointer(), area.len(), base, tag, data.pointer(), data.len(), use_voids) }
     }
 
     pub fn add_aligned(area: &mut Lent, base: u64, tag: u32, data: &mut Lent, exponent: u32) -> Done {
+        watch::call(Call::AddAligned);
         unsafe { tl_add_aligned(area.pointer(), area.len(), base, tag, data.pointer(), data.len(), exponent) }
     }
 
     pub fn void(area: &mut Lent, base: u64, tag: u32, n: u64) -> Done {
+        watch::call(Call::Void);
         unsafe { tl_void(area.pointer(), area.len(), base, tag, n) }
     }
 }
@@ -61,7 +71,9 @@ pub use relocation::relocate;
 #[cfg(feature = "relocate")]
 mod relocation {
     use crate::lent::Lent;
+    use crate::watch;
     use oracle::model::Done;
+    use oracle::tally::Call;
 
     #[rustfmt::skip]
     extern "C" {
@@ -70,6 +82,7 @@ mod relocation {
     }
 
     pub fn relocate(area: &mut Lent, base: u64, target: &mut Lent, target_base: u64) -> Done {
+        watch::call(Call::Relocate);
         unsafe { tl_relocate(area.pointer(), area.len(), base, target.pointer(), target.len(), target_base) }
     }
 }

@@ -100,10 +100,10 @@ fn restore_checksum(area: &mut [u8]) {
 
 /// A length for the area: mostly small, now and then at the limit.
 fn area_len(rng: &mut Rng) -> usize {
-    let len = match rng.below(400) {
-        0 => rng.range(LONGEST_AREA as u64 - 16, LONGEST_AREA as u64),
-        1..=20 => rng.range(256, 2048),
-        21..=40 => rng.range(0, 40),
+    let len = match rng.below(200) {
+        0 => rng.pick(&[65_520, 65_528, 65_535, 65_536, 65_536]),
+        1..=10 => rng.range(256, 2048),
+        11..=20 => rng.range(0, 40),
         _ => rng.range(25, 256),
     };
     len as usize
@@ -153,16 +153,18 @@ fn edited(rng: &mut Rng) -> List {
 }
 
 fn edit(rng: &mut Rng, list: &mut List) {
+    if rng.once_in(12) {
+        move_away(rng, list);
+        return;
+    }
     let tag = rng.range(1, 4) as u32;
-    let bits = rng.range(0, if list.area.len() > 4096 { 15 } else { 7 });
-    let length = rng.below(1 << bits) as usize;
-    let data = rng.bytes(length);
-    match rng.below(12) {
+    let length = rng.small(if list.area.len() > 4096 { 15 } else { 7 });
+    let data = rng.bytes(length as usize);
+    match rng.below(11) {
         0..=2 => model::add(&mut list.area, list.base, tag, &data, false),
         3..=5 => model::add(&mut list.area, list.base, tag, &data, true),
         6 | 7 => model::add_aligned(&mut list.area, list.base, tag, &data, good_exponent(rng)),
-        8..=10 => model::void(&mut list.area, list.base, tag, rng.below(3)),
-        _ => return move_away(rng, list),
+        _ => model::void(&mut list.area, list.base, tag, rng.below(3)),
     };
 }
 
@@ -187,13 +189,10 @@ fn move_away(rng: &mut Rng, list: &mut List) {
 /// A whole list of the given version, laid out byte by byte.
 fn laid_out(rng: &mut Rng, version: u8) -> List {
     let mut area = laid_out_header(rng, version);
-    let limit = area_len(rng);
-    let most = if limit > 4096 { 10_000 } else { rng.below(12) };
-    for _ in 0..most {
-        let entry = laid_out_entry(rng, version);
-        if area.len() + entry.len() <= limit {
-            area.extend(entry);
-        }
+    let limit = area_len(rng) / 8 * 8;
+    lay_out_entries(rng, version, &mut area, limit);
+    if limit > 4096 || rng.once_in(4) {
+        fill_up(rng, &mut area, limit);
     }
     let used = area.len();
     let total = used + spare(rng).min((LONGEST_AREA - used) / 8 * 8);
@@ -260,14 +259,33 @@ fn longer_header(rng: &mut Rng, least: u8) -> u8 {
     }
 }
 
-/// An entry with its data and its padding, which is mostly not 0.
-fn laid_out_entry(rng: &mut Rng, version: u8) -> Vec<u8> {
-    let tag_id = laid_out_tag(rng);
-    let hdr_size = if version == 1 { 8 } else { longer_header(rng, 8) };
-    let mut data_size = rng.below(1 << rng.range(0, 7)) as u32;
-    if tag_id == 0 && !rng.once_in(60) {
-        data_size = data_size / 8 * 8;
+/// Entries as long as they stay below the limit; a long list has many small ones or a few large.
+fn lay_out_entries(rng: &mut Rng, version: u8, area: &mut Vec<u8>, limit: usize) {
+    let bits = if limit > 4096 { rng.pick(&[3, 7, 14]) } else { 7 };
+    for _ in 0..rng.below(2 + limit as u64 / 16) {
+        let hdr_size = if version == 1 { 8 } else { longer_header(rng, 8) };
+        let data_size = rng.small(bits) as u32;
+        let entry = laid_out_entry(rng, hdr_size, data_size);
+        if area.len() + entry.len() <= limit {
+            area.extend(entry);
+        }
     }
+}
+
+/// Entries that end just at the limit, the last one mostly without data.
+fn fill_up(rng: &mut Rng, area: &mut Vec<u8>, limit: usize) {
+    let last = rng.pick(&[8, 8, 16]);
+    if area.len() + 8 + last <= limit {
+        let data_size = limit - last - area.len() - 8;
+        area.extend(laid_out_entry(rng, 8, data_size as u32));
+        area.extend(laid_out_entry(rng, 8, last as u32 - 8));
+    }
+}
+
+/// An entry with its data and its padding, which is mostly not 0.
+fn laid_out_entry(rng: &mut Rng, hdr_size: u8, data_size: u32) -> Vec<u8> {
+    let tag_id = laid_out_tag(rng);
+    let data_size = if tag_id == 0 { data_size / 8 * 8 } else { data_size };
     let mut entry = rng.bytes(align8(hdr_size as u128 + data_size as u128) as usize);
     put_u32(&mut entry, 0, tag_id);
     entry[3] = hdr_size;
@@ -430,4 +448,17 @@ fn resize(rng: &mut Rng, area: &mut Vec<u8>) {
 fn nearby(rng: &mut Rng, total: u128) -> usize {
     let total = total.min(4096) as usize;
     (total + rng.pick(&[0, 7, 8, 9])).saturating_sub(8)
+}
+
+#[cfg(test)]
+mod tests {
+    use super::*;
+
+    #[test]
+    fn the_same_seed_gives_the_same_list() {
+        for seed in 0..1000 {
+            let (one, other) = (any(&mut Rng::new(seed)), any(&mut Rng::new(seed)));
+            assert_eq!((one.base, one.area), (other.base, other.area));
+        }
+    }
 }

@@ -19,6 +19,11 @@ pub const TARGET: u32 = 12;
 pub const NONE: u32 = 13;
 pub const ROOM: u32 = 14;
 
+/// Every answer holds the number: 0 or that of the refusal.
+pub trait Answer: Copy + PartialEq + std::fmt::Debug {
+    fn number(&self) -> u32;
+}
+
 /// What check answers.
 #[repr(C)]
 #[derive(Clone, Copy, Debug, Default, PartialEq, Eq)]
@@ -47,6 +52,24 @@ pub struct Found {
 pub struct Done {
     pub number: u32,
     pub value: u32,
+}
+
+impl Answer for Checked {
+    fn number(&self) -> u32 {
+        self.number
+    }
+}
+
+impl Answer for Found {
+    fn number(&self) -> u32 {
+        self.number
+    }
+}
+
+impl Answer for Done {
+    fn number(&self) -> u32 {
+        self.number
+    }
 }
 
 /// Offsets of the header's fields.
@@ -107,7 +130,7 @@ fn refuse_if(refused: bool, number: u32) -> Result<(), u32> {
 /// "An area is usable when its base is a multiple of 8, base + L is at most 2^48, and L is at most
 /// 65,536."
 fn usable(len: usize, base: u64) -> bool {
-    base % 8 == 0 && within_limits(len, base)
+    base.is_multiple_of(8) && within_limits(len, base)
 }
 
 /// The part of the rule above that a relocation's target must keep too.
@@ -154,8 +177,8 @@ impl Header {
         };
         hdr_size_holds
             && (3..=12).contains(&self.alignment)
-            && self.used_size % 8 == 0
-            && self.total_size % 8 == 0
+            && self.used_size.is_multiple_of(8)
+            && self.total_size.is_multiple_of(8)
             && self.used_size >= self.first_place()
             && self.used_size <= self.total_size
             && self.total_size <= len as u128
@@ -179,7 +202,7 @@ impl Header {
         };
         hdr_size_holds
             && entry.stretch() <= self.used_size - entry.place
-            && (entry.is_live() || entry.data_size % 8 == 0)
+            && (entry.is_live() || entry.data_size.is_multiple_of(8))
     }
 
     /// Walks from the first entry; "the list ends where the place equals used_size".

@@ -52,7 +52,10 @@ fn wanted_tag(rng: &mut Rng, facts: &Facts) -> u32 {
     if facts.live_tags.is_empty() || rng.once_in(4) {
         return absent_tag(rng);
     }
-    let present = rng.pick(&facts.live_tags);
+    let present = match rng.below(4) {
+        0 => facts.live_tags[facts.live_tags.len() - 1],
+        _ => rng.pick(&facts.live_tags),
+    };
     match rng.below(12) {
         0 => present | 0x100_0000,
         1 => present ^ 1 << rng.below(24),

@@ -25,6 +25,12 @@ impl Rng {
         low + self.below(high - low + 1)
     }
 
+    /// A number below 2^bits, the small ones more often.
+    pub fn small(&mut self, bits: u64) -> u64 {
+        let bits = self.range(0, bits);
+        self.below(1 << bits)
+    }
+
     /// True once in `n` times.
     pub fn once_in(&mut self, n: u64) -> bool {
         self.below(n) == 0

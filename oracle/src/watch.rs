@@ -1,5 +1,7 @@
-//! A call that never returns is a difference too: a second thread looks whether the lists go on.
+//! A call that never returns is a difference too: a second thread looks whether the calls go on.
 
+use crate::again;
+use crate::compare::hex;
 use oracle::lists;
 use oracle::rng::Rng;
 use oracle::tally::Call;
@@ -8,7 +10,7 @@ use std::sync::atomic::{AtomicU64, AtomicUsize, Ordering::Relaxed};
 use std::thread;
 use std::time::Duration;
 
-/// Far longer than all calls on the longest list take.
+/// Far longer than any call takes.
 const PATIENCE: Duration = Duration::from_secs(20);
 
 static CALLS: AtomicU64 = AtomicU64::new(0);
@@ -44,9 +46,7 @@ pub fn start() {
 fn give_up() -> ! {
     let seed = SEED.load(Relaxed);
     let list = lists::any(&mut Rng::new(seed));
-    println!("{} does not return", Call::ALL[CALL.load(Relaxed)].name());
-    println!("  base {:#x}", list.base);
-    println!("  area {}", crate::compare::hex(&list.area));
-    println!("{}", crate::again(seed));
+    println!("{} does not return; the last list:", Call::ALL[CALL.load(Relaxed)].name());
+    println!("  base {:#x}\n  area {}\n{}", list.base, hex(&list.area), again(seed));
     exit(1);
 }

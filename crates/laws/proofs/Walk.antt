@@ -1,32 +1,20 @@
 -- The walk's equations: what stands at a place, without the count of steps.
-use mathlib.Core.Path.{_≡_, refl, sym, ap, _∙_}
-use Prim.Native.Nat.{ℕ, zero, suc, _+_, _-_, _*_, _/_, _%_, _≤_, _<_}
+use mathlib.Core.Path.{_≡_, refl, ap, subst, _∙_}
+use Prim.Native.Nat.{ℕ, zero, suc, _+_, _-_, _≤_, _<_}
 use native.Mathlib.Omega.{arith}
 use mathlib.Core.Bool.{Bool, true, false, not, _&&_, _||_, cond}
 use mathlib.Core.List.{List, [], _∷_}
-use lib.Dec.{leb, ltb, eqb}
-use borrow.Author.Tests.{eq-eqb, ne-eqb, eqb-true, eqb-false, ltb-false}
+use mathlib.Core.Option.{some}
+use lib.Dec.{ltb, eqb}
+use borrow.Author.Tests.{eq-eqb, ne-eqb, eqb-true, ltb-false}
 use Rattle.rules.specs.declared.Entry.{Entry}
-use Rattle.rules.specs.Area.{align8, multiple8}
 use Rattle.rules.specs.Header.{entryHeaderSize}
-use Rattle.rules.specs.Entries.{
-  Walk,
-  entries,
-  broken,
-  follow,
-  entryAt,
-  isVoid,
-  span,
-  wrongHeaderSize,
-  badEntry,
-  walkIn,
-  walkFrom,
-}
+use Rattle.rules.specs.Entries.{Walk, entries, broken, follow, entryAt, span, wrongHeaderSize, badEntry, walkIn, walkFrom, occurrence}
 
 -- ---- tests
 
 -- neither of two tests holds
-or-false : (x y : Bool) → (x || y) ≡ false → (x ≡ false) × (y ≡ false)
+pub or-false : (x y : Bool) → (x || y) ≡ false → (x ≡ false) × (y ≡ false)
 or-false true y h = absurd (let z : _≡_ {A = ℕ} 0 1 = cc in omega arith)
 or-false false y h = (refl, h)
 
@@ -49,6 +37,19 @@ good version left e h =
     let p = or-false (wrongHeaderSize version entryHeaderSize (e .«hdr_size») || ltb left (span e)) _ h in
     let q = or-false (wrongHeaderSize version entryHeaderSize (e .«hdr_size»)) (ltb left (span e)) (p .0) in
     record { least = header-least version entryHeaderSize (e .«hdr_size») (q .0); fits = ltb-false left (span e) (q .1) }
+
+-- an entry takes eight bytes or more, so with fewer left there is none that breaks no rule
+pub bad-short : (version left : ℕ) (e : Entry) → left < entryHeaderSize → badEntry version left e ≡ true
+bad-short version left e h = go (badEntry version left e) refl
+  where
+    go : (b : Bool) → badEntry version left e ≡ b → b ≡ true
+    go true p = refl
+    go false p = let k : Good left e = good version left e p in absurd (omega arith)
+
+-- an entry is at the place where it was read
+pub entry-place : (a : List ℕ) (at : ℕ) → entryAt a at .at ≡ at
+unfolding entryAt
+entry-place a at = refl
 
 -- ---- the count of steps
 
@@ -99,3 +100,71 @@ module _ (version : ℕ) (a : List ℕ) (u : ℕ) where
         let k : Good (u - p) (entryAt a p) = good version (u - p) (entryAt a p) b in
         unfold-step
         ∙ rw b (ap (follow (entryAt a p)) (steps (u - p - 1) (u - (p + span (entryAt a p))) version a u (p + span (entryAt a p)) (omega arith) (omega arith) (omega arith)))
+
+-- ---- the entries of a walk
+
+-- every entry of a list has a property
+abbrev pub All : (Entry → Type 0) → List Entry → Type 0
+All P [] = Unit
+All P (e ∷ es) = P e × All P es
+
+-- where an entry of a walk from first up to used lies
+pub record Inside (first used : ℕ) (e : Entry) : Type 0 where
+  pub least : entryHeaderSize ≤ e .«hdr_size»
+  pub behind : first ≤ e .at
+  pub within : e .at + span e ≤ used
+
+module _ (P : Entry → Type 0) where
+  -- what holds of an entry and of every one behind it holds of the whole row
+  all-follow : (e : Entry) (w : Walk) (row : List Entry) → P e → ((es : List Entry) → w ≡ entries es → All P es) → follow e w ≡ entries row → All P row
+  all-follow e (entries es) row p f h = let q : e ∷ es ≡ row = cc in subst (All P) q (p, f es refl)
+  all-follow e (broken at) row p f h = absurd (let z : _≡_ {A = ℕ} 0 1 = cc in omega arith)
+
+  -- what holds of every entry holds of each occurrence
+  pub occurrence-inside : (tag n : ℕ) (es : List Entry) (e : Entry) → All P es → occurrence tag n es ≡ some e → P e
+  unfolding occurrence
+  occurrence-inside tag n [] e h o = absurd (let z : _≡_ {A = ℕ} 0 1 = cc in omega arith)
+  occurrence-inside tag n (x ∷ es) e h o =
+      go (eqb (x .«tag_id») tag) (eqb n 0) (occurrence-inside tag (n - 1) es e (h .1)) (occurrence-inside tag n es e (h .1)) o
+    where
+      go : (t z : Bool) → (occurrence tag (n - 1) es ≡ some e → P e) → (occurrence tag n es ≡ some e → P e)
+          → cond t (cond z (some x) (occurrence tag (n - 1) es)) (occurrence tag n es) ≡ some e → P e
+      go true true f g k = let q : x ≡ e = cc in subst P q (h .0)
+      go true false f g k = f k
+      go false z f g k = g k
+
+module _ (version : ℕ) (a : List ℕ) (used first : ℕ) where
+  -- an entry that breaks no rule lies before used_size
+  inside-here : (at : ℕ) → first ≤ at → badEntry version (used - at) (entryAt a at) ≡ false → Inside first used (entryAt a at)
+  inside-here at h b =
+      let g : Good (used - at) (entryAt a at) = good version (used - at) (entryAt a at) b in
+      let e : entryAt a at .at ≡ at = entry-place a at in
+      record { least = g .least; behind = omega arith; within = omega arith }
+
+  -- the same for any number of steps
+  inside-in : (n at : ℕ) (row : List Entry) → first ≤ at → walkIn n version a used at ≡ entries row → All (Inside first used) row
+  unfolding walkIn
+  inside-in zero at row h k = go (eqb at used) k
+    where
+      go : (b : Bool) → cond b (entries []) (broken at) ≡ entries row → All (Inside first used) row
+      go true p = let q : [] ≡ row = cc in subst (All (Inside first used)) q tt
+      go false p = absurd (let z : _≡_ {A = ℕ} 0 1 = cc in omega arith)
+  inside-in (suc n) at row h k =
+      go (eqb at used) (badEntry version (used - at) (entryAt a at)) refl
+      (λ es l. inside-in n (at + span (entryAt a at)) es l) k
+    where
+      rest : Walk
+      rest = walkIn n version a used (at + span (entryAt a at))
+
+      go : (b c : Bool) → badEntry version (used - at) (entryAt a at) ≡ c
+          → ((es : List Entry) → first ≤ at + span (entryAt a at) → rest ≡ entries es → All (Inside first used) es)
+          → cond b (entries []) (cond c (broken at) (follow (entryAt a at) rest)) ≡ entries row → All (Inside first used) row
+      go true c e f p = let q : [] ≡ row = cc in subst (All (Inside first used)) q tt
+      go false true e f p = absurd (let z : _≡_ {A = ℕ} 0 1 = cc in omega arith)
+      go false false e f p =
+          all-follow (Inside first used) (entryAt a at) rest row (inside-here at h e) (λ es q. f es (omega arith) q) p
+
+  -- each entry of an unbroken walk lies between its first place and used_size
+  pub walk-inside : (row : List Entry) → walkFrom version a used first ≡ entries row → All (Inside first used) row
+  unfolding walkFrom
+  walk-inside row h = inside-in (used - first) first row (omega arith) h

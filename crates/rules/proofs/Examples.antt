@@ -318,5 +318,5 @@ table =
 
 -- the claim
 pub examples : map (λ (r : Row). r .got) table ≡ map (λ (r : Row). r .want) table
-unfolding field leBytes xor splice headerOf headerBytes freshHeader entryAt entryHeader walkIn walkFrom walk entriesOf liveCount voidCount occurrence checksumHolds freshChecksum seal tagTable allowedIn checks checkAnswer doneAnswer freshList create entryBytes firstFit voidBehind addInVoid append addAtEnd add voidBytes paddingVoid alignedBytes appendAligned addAlignedAtEnd addAligned void newBase shift moved targetBytes moveTo relocate
+unfolding field leBytes xor splice headerOf headerBytes freshHeader entryAt entryHeader walkIn walkFrom walk entriesOf liveCount voidCount occurrence checksumHolds freshChecksum seal tagTable allowedIn checks freshList create entryBytes firstFit voidBehind addInVoid append addAtEnd add voidBytes paddingVoid alignedBytes appendAligned addAlignedAtEnd addAligned void newBase shift moved targetBytes moveTo relocate
 examples = refl

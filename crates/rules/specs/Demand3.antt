@@ -150,19 +150,10 @@ pub record Holds (e : Edit) (a : List ℕ) (base value : ℕ) (bytes : List ℕ)
   pub size : length bytes ≡ length (lent e a)
   pub addresses : KeepsAddresses e a base (resultArea e value bytes) (resultBase e base value)
 
--- the bytes that an edit is given are bytes
-abbrev pub GivenBytes : Edit → Type 0
-GivenBytes (add tag content useVoids) = (i : ℕ) → getD content i 0 < 256
-GivenBytes (addAligned tag content exponent) = (i : ℕ) → getD content i 0 < 256
-GivenBytes (void tag n) = Unit
-GivenBytes (relocate target targetBase) = Unit
-
--- Demand 3: of every edit of every accepted version 1 list of bytes, at every base, that is not refused
+-- Demand 3: of every edit of every accepted version 1 list, at every base, that is not refused
 abbrev pub Demand3 : Type 0
 Demand3 =
     (e : Edit) (a : List ℕ) (base value : ℕ) (bytes : List ℕ)
-    → ((i : ℕ) → getD a i 0 < 256)
-    → GivenBytes e
     → AcceptedV1 a base
     → run e a base ≡ done value bytes
     → Holds e a base value bytes

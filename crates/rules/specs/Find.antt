@@ -40,6 +40,6 @@ unfoldable pub findData : List ℕ → ℕ → ℕ → ℕ → List ℕ
 findData a base tag n = partAt a (find a base tag n)
 
 -- the answer in numbers
-unfoldable pub findAnswer : Found → FindAnswer
+abbrev pub findAnswer : Found → FindAnswer
 findAnswer (found.At offset size) = record { number = 0; offset = offset; size = size }
 findAnswer (found.Refused r) = record { number = numberOf r; offset = 0; size = 0 }

@@ -27,7 +27,7 @@ bytesAfter before (refused r) = before
 bytesAfter before (done value bytes) = bytes
 
 -- the answer in numbers
-unfoldable pub doneAnswer : Done → DoneAnswer
+abbrev pub doneAnswer : Done → DoneAnswer
 doneAnswer (answered.Value value) = record { number = 0; value = value }
 doneAnswer (answered.Refused r) = record { number = numberOf r; value = 0 }
 

@@ -2,12 +2,18 @@
 ghost use mathlib.Core.Path.{_≡_};
 ghost use Rattle.rules.specs.Header.{freshHeader};
 ghost use Rattle.rules.specs.Refusals.{numberOf};
+ghost use Rattle.rules.specs.Check.{refusalOf, checkAnswer};
+ghost use Rattle.rules.specs.Find.{findAnswer};
+ghost use Rattle.rules.specs.Outcome.{doneAnswer};
 
 // The longest area and the longest target, in bytes.
 pub const MAX_LENGTH: usize = 65536;
 
 // The largest alignment, as a power of two's exponent.
 pub const MAX_ALIGNMENT: u8 = 12;
+
+// No area reaches above this address.
+pub const MAX_ADDRESS: u64 = 281474976710656;
 
 // The header of a list, field by field.
 pub struct Header {
@@ -153,4 +159,77 @@ pub struct FindAnswer {
 pub struct DoneAnswer {
     pub number: u32,
     pub value: u32,
+}
+
+impl Checked {
+    // Why the check refused.
+    pub fn refusal(self) -> Refusal
+        ensures { λ r. ⌜ r ≡ refusalOf self ⌝ }
+    {
+        match self {
+            Checked::Accepted(_) => Refusal::Area,
+            Checked::Refused(r) => r,
+        }
+    }
+
+    // The answer in numbers.
+    pub fn numbers(self) -> CheckAnswer
+        ensures { λ r. ⌜ r ≡ checkAnswer self ⌝ }
+    {
+        match self {
+            Checked::Accepted(f) => CheckAnswer {
+                number: 0,
+                version: f.version,
+                used: f.used,
+                total: f.total,
+                alignment: f.alignment,
+                live: f.live,
+                voids: f.voids,
+            },
+            Checked::Refused(r) => CheckAnswer {
+                number: r.number(),
+                version: 0,
+                used: 0,
+                total: 0,
+                alignment: 0,
+                live: 0,
+                voids: 0,
+            },
+        }
+    }
+}
+
+impl Found {
+    // The answer in numbers.
+    pub fn numbers(self) -> FindAnswer
+        ensures { λ r. ⌜ r ≡ findAnswer self ⌝ }
+    {
+        match self {
+            Found::At { offset, size } => FindAnswer {
+                number: 0,
+                offset,
+                size,
+            },
+            Found::Refused(r) => FindAnswer {
+                number: r.number(),
+                offset: 0,
+                size: 0,
+            },
+        }
+    }
+}
+
+impl Done {
+    // The answer in numbers.
+    pub fn numbers(self) -> DoneAnswer
+        ensures { λ r. ⌜ r ≡ doneAnswer self ⌝ }
+    {
+        match self {
+            Done::Value(value) => DoneAnswer { number: 0, value },
+            Done::Refused(r) => DoneAnswer {
+                number: r.number(),
+                value: 0,
+            },
+        }
+    }
 }

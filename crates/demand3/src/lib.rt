@@ -1,0 +1,1 @@
+// Demand 3 of the written rules, one theorem, in proofs/. No code.

@@ -1,0 +1,67 @@
+// Writing a plan, piece by piece.
+use crate::Plan;
+ghost use mathlib.Core.Path.{_≡_};
+ghost use Prim.Native.Nat.{_+_, _≤_, _<_, _^_};
+ghost use mathlib.Core.List.{_++_};
+ghost use lib.ListN.{length, replicate};
+ghost use Rattle.wire.specs.Bytes.{splice};
+ghost use Rattle.rules.specs.Entries.{entryHeader};
+ghost use Rattle.plan.specs.Plan.{voidHeader, wholeVoid, fieldsAfter, after, Writable};
+
+// The checksum byte, the alignment and used_size.
+fn write_fields(a: &mut [u8], p: Plan)
+    requires { ⌜ 24 ≤ length (now a) ⌝ }
+    ensures { λ _. ⌜ now (a .exit) ≡ fieldsAfter p (now (a .entry)) ⌝ }
+{
+    a[4] = p.checksum;
+    a[7] = p.alignment;
+    wire::write4(a, 8, p.used_size);
+}
+
+// The header of a void that takes n bytes, if there is one.
+fn write_void_header(a: &mut [u8], at: usize, n: usize)
+    requires { ⌜ (at + n ≤ length (now a)) × (n < 2 ^ 32) ⌝ }
+    ensures { λ _. ⌜ now (a .exit) ≡ splice (now (a .entry)) at (voidHeader n) ⌝ }
+{
+    if n < 8 {
+        return;
+    }
+    let size = n - 8;
+    wire::write8(a, at, crate::entry_word(0, size as u32));
+}
+
+// A void that takes n bytes, its data 0, if there is one.
+fn write_void(a: &mut [u8], at: usize, n: usize)
+    requires { ⌜ (at + n ≤ length (now a)) × (n < 2 ^ 32) ⌝ }
+    ensures { λ _. ⌜ now (a .exit) ≡ splice (now (a .entry)) at (wholeVoid n) ⌝ }
+{
+    write_void_header(a, at, n);
+    if n > 8 {
+        wire::zero_part(a, at + 8, n - 8);
+    }
+}
+
+// An entry's header and data, with zeros behind.
+fn write_entry(a: &mut [u8], at: usize, tag: u32, size: u32, data: &[u8], zeros: usize)
+    requires { ⌜ (at + 8 + length (now «data») + zeros ≤ length (now a)) × (tag < 2 ^ 24) ⌝ }
+    ensures { λ _. ⌜ now (a .exit) ≡ splice (now (a .entry)) at (entryHeader tag size ++ (now («data» .entry) ++ replicate zeros 0)) ⌝ }
+{
+    let from = at + 8;
+    wire::write8(a, at, crate::entry_word(tag, size));
+    wire::copy_part(a, from, data);
+    wire::zero_part(a, from + data.len(), zeros);
+}
+
+// The whole plan: the header fields, the padding void, the entry, and the header of the void behind.
+pub fn write_plan(a: &mut [u8], p: Plan, data: &[u8])
+    requires { ⌜ Writable p (length (now a)) (length (now «data»)) ⌝ }
+    ensures { λ _. ⌜ now (a .exit) ≡ after p (now (a .entry)) (now («data» .entry)) ⌝ }
+{
+    let at = p.at;
+    let entry = at + p.padding;
+    let behind = entry + 8 + data.len() + p.zeros;
+    write_fields(a, p);
+    write_void(a, at, p.padding);
+    write_entry(a, entry, p.tag_id, p.data_size, data, p.zeros);
+    write_void_header(a, behind, p.behind);
+}

@@ -1,0 +1,69 @@
+-- The part is the data that `find` answers, which lies within the area; where it refuses the part is empty.
+use mathlib.Core.Path.{sym, _∙_}
+use native.Mathlib.Omega.{arith}
+use native.Mathlib.Nat.{add-sub-cancel-left}
+use Rattle.rules.specs.Find.{findData}
+use Rattle.laws.proofs.Check.{find-within}
+use borrow.Author.Needs.{needs}
+use Rattle.walk.proofs.find.find_data.Statement.{statement}
+use Rattle.walk.proofs.find.find_data.Tie as tie
+
+find-requires : tie.Need-find-requires
+find-requires c κs = search needs
+
+enum-known-offset : tie.Need-enum-known-offset
+enum-known-offset c = search needs
+
+enum-told : tie.Need-enum-told
+enum-told c = search needs
+
+slice-aggregate-result : tie.Need-slice-aggregate-result
+slice-aggregate-result c = search needs
+
+returns : tie.Need-returns
+unfolding findData
+returns c = simp (← c .before .before .before .find .ensures, c .before .enum-told .given .1)
+
+cast-from : tie.Need-cast-from
+cast-from c = search needs
+
+cast-to : tie.Need-cast-to
+cast-to c = search needs
+
+add-to : tie.Need-add-to
+add-to c = search needs
+
+sub-result : tie.Need-sub-result
+sub-result c = search needs
+
+part-result-start : tie.Need-part-result-start
+part-result-start c = search needs
+
+part-result-end : tie.Need-part-result-end
+part-result-end c =
+    let k = c .before in
+    let w = find-within _ _ _ _ _ _ (sym (k .before .before .find .ensures) ∙ k .offset .given .1) in
+    omega arith
+
+returns-2 : tie.Need-returns-2
+unfolding findData
+returns-2 c =
+    let k = c .before .before in
+    simp (← k .before .before .find .ensures, k .offset .given .1, add-sub-cancel-left)
+
+pub find-data-spec : {M : Type 1} → statement M
+find-data-spec =
+    tie.close
+    (tie.spec
+    find-requires
+    enum-known-offset
+    enum-told
+    slice-aggregate-result
+    returns
+    cast-from
+    cast-to
+    add-to
+    sub-result
+    part-result-start
+    part-result-end
+    returns-2)

@@ -1,0 +1,104 @@
+// The header's fields, and refusals 1 to 6, which need no more than the header.
+use rules::Header;
+use rules::Refusal;
+ghost use mathlib.Core.Path.{_≡_};
+ghost use Prim.Native.Nat.{_≤_};
+ghost use lib.ListN.{length};
+ghost use Rattle.rules.specs.Area.{usable as usableRule};
+ghost use Rattle.rules.specs.Header.{headerOf};
+ghost use Rattle.rules.specs.Entries.{firstEntry};
+ghost use Rattle.rules.specs.Refusals.{refusesSizes, refusesReadonly};
+ghost use Rattle.walk.specs.Headed.{headed};
+
+pub enum Headed {
+    Good(Header),
+    Refused(Refusal),
+}
+
+// The header's fields, as the table has them.
+pub fn read_header(a: &[u8]) -> Header
+    requires { ⌜ 24 ≤ length (now a) ⌝ }
+    ensures { λ r. ⌜ r ≡ headerOf (now (a .entry)) ⌝ }
+{
+    Header {
+        signature: wire::read4(a, 0),
+        checksum: a[4],
+        version: a[5],
+        hdr_size: a[6],
+        alignment: a[7],
+        used_size: wire::read4(a, 8),
+        total_size: wire::read4(a, 12),
+        flags: wire::read4(a, 16),
+        reserved: wire::read4(a, 20),
+    }
+}
+
+// The place of the first entry.
+pub fn first_entry(h: Header) -> usize
+    ensures { λ r. ⌜ r ≡ firstEntry h ⌝ }
+{
+    (h.hdr_size as usize + 7) / 8 * 8
+}
+
+// An area is usable.
+pub fn usable(base: u64, len: usize) -> bool
+    ensures { λ r. ⌜ r ≡ usableRule base len ⌝ }
+{
+    if rules::MAX_LENGTH < len {
+        return false;
+    }
+    if rules::MAX_ADDRESS < base {
+        return false;
+    }
+    (base % 8 == 0) & (base + len as u64 <= rules::MAX_ADDRESS)
+}
+
+// Refusal 5: only an edit is refused for a version over 1.
+fn refuses_readonly(editing: bool, h: Header) -> bool
+    ensures { λ r. ⌜ r ≡ refusesReadonly editing h ⌝ }
+{
+    editing & (Header::VERSION < h.version)
+}
+
+// Refusal 6.
+fn refuses_sizes(h: Header, len: usize) -> bool
+    ensures { λ r. ⌜ r ≡ refusesSizes h len ⌝ }
+{
+    let used = h.used_size as usize;
+    let total = h.total_size as usize;
+    ((h.version == Header::VERSION) & (h.hdr_size != Header::SIZE)
+        | (h.version != Header::VERSION) & (h.hdr_size < Header::SIZE))
+        | ((h.alignment < Header::ALIGNMENT) | (rules::MAX_ALIGNMENT < h.alignment))
+        | (used % 8 != 0)
+        | (total % 8 != 0)
+        | (used < first_entry(h))
+        | (total < used)
+        | (len < total)
+}
+
+// Refusals 1 to 6 in the order of their numbers, or the header.
+pub fn check_header(editing: bool, area: &[u8], base: u64) -> Headed
+    ensures { λ r. ⌜ r ≡ headed editing (now (area .entry)) base ⌝ }
+{
+    let len = area.len();
+    if !usable(base, len) {
+        return Headed::Refused(Refusal::Area);
+    }
+    if len < 24 {
+        return Headed::Refused(Refusal::Short);
+    }
+    let h = read_header(area);
+    if h.signature != Header::SIGNATURE {
+        return Headed::Refused(Refusal::Signature);
+    }
+    if h.version == 0 {
+        return Headed::Refused(Refusal::Version);
+    }
+    if refuses_readonly(editing, h) {
+        return Headed::Refused(Refusal::Readonly);
+    }
+    if refuses_sizes(h, len) {
+        return Headed::Refused(Refusal::Sizes);
+    }
+    Headed::Good(h)
+}

@@ -1,0 +1,106 @@
+#include "table.h"
+
+#include <stdio.h>
+
+#include "transfer_list.h"
+
+static const char *const names[] = {"accepted", "AREA",     "SHORT", "SIGNATURE", "VERSION", "READONLY", "SIZES", "CHECKSUM",
+                                    "ENTRY",    "TAG",      "SHAPE", "ALIGN",     "TARGET",  "NONE",     "ROOM"};
+
+static const char *const causes[] = {
+    "",
+    "the area is not usable: base no multiple of 8, too long, or above 2^48",
+    "the area is too short for a list",
+    "this is not a transfer list",
+    "version 0 is illegal",
+    "a later version may be read and not edited",
+    "a size or the alignment in the header is wrong",
+    "the checksum rule is broken",
+    "an entry breaks a rule",
+    "the tag is 0, too large or reserved",
+    "this tag may not carry data of this length",
+    "the exponent is outside 3 to 12",
+    "the target is too long or above 2^48",
+    "no such occurrence of the tag",
+    "there is no room for it",
+};
+
+const char *refusal_name(uint32_t number)
+{
+    return number < sizeof names / sizeof *names ? names[number] : "unknown";
+}
+
+const char *refusal_cause(uint32_t number)
+{
+    return number < sizeof causes / sizeof *causes ? causes[number] : "";
+}
+
+void print_refusal(uint32_t number)
+{
+    printf("refused %u %s: %s\n", (unsigned)number, refusal_name(number), refusal_cause(number));
+}
+
+static uint32_t number_at(const uint8_t *bytes, size_t at, int width)
+{
+    uint32_t n = 0;
+    while (width-- > 0)
+        n = n << 8 | bytes[at + (size_t)width];
+    return n;
+}
+
+static const char *tag_name(uint32_t tag)
+{
+    switch (tag) {
+    case 0: return "void";
+    case 1: return "device tree";
+    case 2: return "HOB block";
+    case 3: return "HOB list";
+    case 4: return "ACPI tables";
+    case 5: return "TPM event log";
+    case 6: return "TPM CRB base";
+    case 0x100: return "OP-TEE pageable part";
+    case 0x101: return "SPMC manifest";
+    case 0x102: return "entry point";
+    case 0x104: return "memory layout";
+    default: return tag >= 0xfff000 ? "own use" : "other";
+    }
+}
+
+/* The data's first bytes, in hex. */
+static void print_data(const uint8_t *data, uint32_t size)
+{
+    uint32_t shown = size < 12 ? size : 12;
+    for (uint32_t i = 0; i < shown; i++)
+        printf(" %02x", data[i]);
+    printf("%s\n", shown < size ? " .." : "");
+}
+
+uint32_t print_list(const uint8_t *area, size_t len, uint64_t base)
+{
+    tl_checked c = tl_check(area, len, base);
+    if (c.number != 0) {
+        print_refusal(c.number);
+        return c.number;
+    }
+    printf("version %u, used %u of %u, alignment 2^%u, checksum %02x (%s), %u live, %u void\n", (unsigned)c.version, (unsigned)c.used,
+           (unsigned)c.total, (unsigned)c.alignment, area[4], area[16] & 1 ? "on" : "off", (unsigned)c.live, (unsigned)c.voids);
+    printf("  offset  tag     kind                  size  address         data\n");
+    for (uint32_t at = (area[6] + 7u) / 8 * 8; at < c.used;) {
+        uint32_t tag = number_at(area, at, 3), hdr_size = area[at + 3], size = number_at(area, at + 4, 4);
+        printf("  %6u  %06x  %-20s  %4u  0x%012llx ", (unsigned)at, (unsigned)tag, tag_name(tag), (unsigned)size,
+               (unsigned long long)(base + at + hdr_size));
+        print_data(area + at + hdr_size, size);
+        at += (hdr_size + size + 7) / 8 * 8;
+    }
+    return 0;
+}
+
+void print_hex(const uint8_t *bytes, size_t n)
+{
+    for (size_t i = 0; i < n; i += 16) {
+        printf("  %6zu ", i);
+        for (size_t j = i; j < n && j < i + 16; j++)
+            printf(" %02x", bytes[j]);
+        printf("\n");
+    }
+}

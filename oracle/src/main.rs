@@ -1,0 +1,77 @@
+//! Compares libtransfer_list.a with the model of document 01 on many lists.
+//!
+//! `oracle [LISTS [SEED]]`; the list after that of seed S is the one of seed S + 1.
+
+mod compare;
+#[cfg(feature = "edits")]
+mod edits;
+mod huge;
+mod lent;
+mod library;
+#[cfg(feature = "relocate")]
+mod relocations;
+mod watch;
+
+use compare::Bench;
+use oracle::lists;
+use oracle::rng::Rng;
+use std::env;
+use std::process::ExitCode;
+
+const LISTS: u64 = 200_000;
+const SEED: u64 = 1;
+
+fn main() -> ExitCode {
+    match arguments().and_then(|(lists, seed)| run(lists, seed)) {
+        Ok(()) => ExitCode::SUCCESS,
+        Err(report) => {
+            println!("{report}");
+            ExitCode::FAILURE
+        }
+    }
+}
+
+fn arguments() -> Result<(u64, u64), String> {
+    let mut given = env::args().skip(1);
+    let lists = number(given.next(), LISTS)?;
+    let seed = number(given.next(), SEED)?;
+    match given.next() {
+        None => Ok((lists, seed)),
+        Some(_) => Err("usage: oracle [LISTS [SEED]]".to_string()),
+    }
+}
+
+fn number(given: Option<String>, default: u64) -> Result<u64, String> {
+    match given {
+        None => Ok(default),
+        Some(text) => text.parse().map_err(|_| format!("{text} is no number")),
+    }
+}
+
+fn run(lists: u64, seed: u64) -> Result<(), String> {
+    let mut bench = Bench::new(seed);
+    watch::start();
+    for index in 0..lists {
+        one_list(&mut bench, seed.wrapping_add(index)).map_err(|report| format!("list {index}: {report}"))?;
+    }
+    bench.huge_lengths()?;
+    println!("{}", bench.tally.table());
+    let unseen = bench.tally.unseen();
+    if !unseen.is_empty() {
+        return Err(unseen.join("\n"));
+    }
+    println!("{lists} lists, {} calls, no difference", bench.tally.calls());
+    Ok(())
+}
+
+fn one_list(bench: &mut Bench, seed: u64) -> Result<(), String> {
+    watch::list(seed);
+    let mut rng = Rng::new(seed);
+    let list = lists::any(&mut rng);
+    bench.list(&mut rng, &list).map_err(|report| format!("{report}\n{}", again(seed)))
+}
+
+/// How to make the calls on one list once more.
+fn again(seed: u64) -> String {
+    format!("  once more: oracle 1 {seed}")
+}

@@ -1,0 +1,44 @@
+//! The comparison of relocate.
+
+use crate::compare::{untouched, Asked, Bench, Buffer};
+use crate::library;
+use oracle::demand::{self, Relocation};
+use oracle::lists::List;
+use oracle::model;
+use oracle::params::{self, Facts};
+use oracle::rng::Rng;
+use oracle::tally::Call;
+
+/// Relocations per list.
+const RELOCATIONS: usize = 4;
+
+impl Bench {
+    pub fn relocations(&mut self, rng: &mut Rng, list: &List, facts: &Facts) -> Result<(), String> {
+        for _ in 0..RELOCATIONS {
+            let (target_len, target_base) = params::target(rng, facts);
+            self.relocate(list, &rng.bytes(target_len), target_base)?;
+        }
+        Ok(())
+    }
+
+    fn relocate(&mut self, list: &List, bytes: &[u8], target_base: u64) -> Result<(), String> {
+        let mut area = self.guards.lend(&list.area);
+        let mut target = self.guards.lend(bytes);
+        let mut after = bytes.to_vec();
+        let wanted = model::relocate(&list.area, list.base, &mut after, target_base);
+        let given = library::relocate(&mut area, list.base, &mut target, target_base);
+        let numbers = || format!("base {:#x}, target_base {target_base:#x}", list.base);
+        let asked = Asked { call: Call::Relocate, numbers: &numbers };
+        let buffers = [
+            untouched("area", &list.area, &area),
+            Buffer { name: "target", before: bytes, wanted: &after, lent: &target },
+        ];
+        self.judge(&asked, wanted, given, &buffers)?;
+        if wanted.number == 0 {
+            let (area, base, shift) = (&list.area[..], list.base, wanted.value);
+            let moved = Relocation { area, base, target: &after, target_base, shift };
+            asked.demand(demand::after_relocation(&moved), &buffers)?;
+        }
+        Ok(())
+    }
+}
