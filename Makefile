@@ -1,9 +1,71 @@
-# make test: everything that is checked, ending with rt ci.   make lib: the archive for C.
+# make run       the demonstration: a bench's boot over the library
+# make test      everything that is checked; ends with rt ci, whose last line is 'N passed, 0 failed'
+# make lib       target/staticlib/libtransfer_list.a, for C on x86-64
+# make install   the archive, the header and a pkg-config file under PREFIX (default /usr/local)
+# make compare   the library beside the independent second program: LISTS=N SEED=S
+# make bench     the library beside plain Rust
+#
+# It needs the Rattle kit (rt), make, gcc and g++, and for compare, test and bench cargo. Nothing is fetched from a network.
 
-.PHONY: test fmt-check lib
+LISTS = 200000
+SEED = 1
+PREFIX = /usr/local
+CFLAGS = -O2 -Wall -Wextra -pedantic -Werror
 
-test: fmt-check
+LIB = target/staticlib/libtransfer_list.a
+SOURCES = crates.txt $(shell find crates -name '*.rt' -o -name '*.antt')
+C_FLAGS = -std=c99 $(CFLAGS) -Iinclude
+CARGO = cargo build --quiet --release --offline
+
+.PHONY: run show test lib install compare bench fmt-check header-check symbols-check size
+
+run: target/demo/boot target/demo/show
+	target/demo/boot
+	@echo
+	target/demo/show
+
+show: target/demo/show
+	target/demo/show $(FILE) $(BASE)
+
+test: fmt-check header-check symbols-check compare run
 	rt ci
+
+lib: $(LIB)
+
+$(LIB): $(SOURCES)
+	rt staticlib transfer_list
+
+target/demo/%: demo/%.c demo/table.c demo/table.h include/transfer_list.h $(LIB)
+	mkdir -p target/demo
+	$(CC) $(C_FLAGS) -o $@ $< demo/table.c $(LIB)
+
+install: $(LIB)
+	install -d $(DESTDIR)$(PREFIX)/lib/pkgconfig $(DESTDIR)$(PREFIX)/include
+	install -m 644 $(LIB) $(DESTDIR)$(PREFIX)/lib/
+	install -m 644 include/transfer_list.h $(DESTDIR)$(PREFIX)/include/
+	printf 'prefix=%s\nName: transfer_list\nDescription: transfer lists of the Firmware Handoff specification, proved\nVersion: 1\nCflags: -I$${prefix}/include\nLibs: -L$${prefix}/lib -ltransfer_list\n' $(PREFIX) > $(DESTDIR)$(PREFIX)/lib/pkgconfig/transfer_list.pc
+
+compare: $(LIB)
+	$(CARGO) --manifest-path oracle/Cargo.toml --target-dir target/oracle
+	target/oracle/release/oracle $(LISTS) $(SEED)
+
+bench: $(LIB)
+	$(CARGO) --manifest-path bench/Cargo.toml --target-dir target/bench
+	target/bench/release/bench
 
 fmt-check:
 	rt fmt --check
+
+# the header is C99 and C++
+header-check:
+	$(CC) -std=c99 $(CFLAGS) -fsyntax-only -x c include/transfer_list.h
+	$(CXX) -std=c++11 $(CFLAGS) -fsyntax-only -x c++ include/transfer_list.h
+
+# the archive asks for no more than what a freestanding compiler asks for
+symbols-check: $(LIB)
+	@others=$$(nm -u $(LIB) | awk 'NF == 2 { print $$2 }' | grep -vxE 'memcpy|memmove|memset|memcmp'); \
+	if [ -n "$$others" ]; then echo "undefined symbols: $$others"; exit 1; fi
+	@echo "undefined symbols: $$(nm -u $(LIB) | awk 'NF == 2 { print $$2 }' | tr '\n' ' ')"
+
+size: $(LIB)
+	size $(LIB)

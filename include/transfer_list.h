@@ -4,7 +4,7 @@
  * Every function takes any bytes at any stated address, of any size. It ends, reads and writes only the memory that it is lent, and
  * gives the answer or one numbered refusal. A refused call changes no byte. Nothing has to be checked before calling.
  *
- * A buffer is a pointer and a length in bytes. A length of 0 is allowed; the pointer then need not point anywhere, but must not be NULL.
+ * A buffer is a pointer and a length in bytes. A length of 0 is allowed; the pointer is then not used and may be NULL.
  * Buffers lent to one call must not overlap. `base` is the address that the area is to be taken to stand at; it is a number only and
  * need not be the pointer's value. Nothing is kept between calls.
  */
@@ -108,6 +108,109 @@ static inline const uint8_t *tl_data(const uint8_t *area, tl_found found)
 {
     return area + found.offset;
 }
+
+/**
+ * tl_create - create an empty transfer list
+ * @area: the bytes of the area to write
+ * @len: the number of bytes of the area
+ * @base: the address at which the area stands
+ * @has_checksum: whether the list is to have a checksum
+ *
+ * tl_create() writes the header of a list of version 1 without entries, whose total_size is len rounded down to a multiple of 8, and
+ * zero in every further byte of the area.
+ *
+ * returns:
+ *	number 0, and the list's total_size
+ *	TL_AREA, the area is not usable
+ *	TL_SHORT, len is 24 or less
+ */
+tl_done tl_create(uint8_t *area, size_t len, uint64_t base, bool has_checksum);
+
+/**
+ * tl_add - add an entry
+ * @area: the bytes of the area that holds the list
+ * @len: the number of bytes of the area
+ * @base: the address at which the area stands
+ * @tag: the new entry's tag
+ * @data: the new entry's data
+ * @data_len: the number of bytes of data
+ * @use_voids: whether the entry may take the place of a void
+ *
+ * tl_add() checks the list, and then writes the entry: with use_voids into the first void whose data_size is at least data_len, what is
+ * left of it becoming a void of its own; else at used_size, which grows. Padding is written 0. The checksum byte is put right.
+ *
+ * returns:
+ *	number 0, and the offset of the new data
+ *	each refusal of tl_check()
+ *	TL_READONLY, the list's version is over 1; it comes after TL_VERSION and before TL_SIZES
+ *	TL_TAG, the tag is 0, over 0xffffff, or 0x800000 to 0xffefff
+ *	TL_SHAPE, the tag is 6, 0x100 or 0x104 and data_len is not 12, 8 or 16
+ *	TL_ROOM, no allowed void serves and the entry does not fit behind used_size
+ */
+tl_done tl_add(uint8_t *area, size_t len, uint64_t base, uint32_t tag, const uint8_t *data, size_t data_len, bool use_voids);
+
+/**
+ * tl_add_aligned - add an entry whose data address is a multiple of a power of two
+ * @area: the bytes of the area that holds the list
+ * @len: the number of bytes of the area
+ * @base: the address at which the area stands
+ * @tag: the new entry's tag
+ * @data: the new entry's data
+ * @data_len: the number of bytes of data
+ * @exponent: the power of two's exponent
+ *
+ * tl_add_aligned() checks the list, and then writes the entry at used_size, behind a padding void where one is needed so that
+ * base + offset of the data is a multiple of 2^exponent. It never uses a void. The alignment field becomes the larger of itself and
+ * exponent. The checksum byte is put right.
+ *
+ * returns:
+ *	number 0, and the offset of the new data
+ *	each refusal of tl_add() before TL_ROOM
+ *	TL_ALIGN, exponent is outside 3 to 12
+ *	TL_ROOM, the padding void and the entry together do not fit behind used_size; neither is written
+ */
+tl_done tl_add_aligned(uint8_t *area, size_t len, uint64_t base, uint32_t tag, const uint8_t *data, size_t data_len, uint32_t exponent);
+
+/**
+ * tl_void - strike an entry out
+ * @area: the bytes of the area that holds the list
+ * @len: the number of bytes of the area
+ * @base: the address at which the area stands
+ * @tag: the entry's tag
+ * @n: which occurrence of the tag, counted from 0 in list order
+ *
+ * tl_void() checks the list, and then turns the entry into a void over the same bytes, its data and padding 0. The checksum byte is put
+ * right.
+ *
+ * returns:
+ *	number 0, and the offset of the voided entry
+ *	each refusal of tl_check(), and TL_READONLY as in tl_add()
+ *	TL_TAG, the tag is 0 or over 0xffffff
+ *	TL_NONE, the list has no such occurrence of the tag
+ */
+tl_done tl_void(uint8_t *area, size_t len, uint64_t base, uint32_t tag, uint64_t n);
+
+/**
+ * tl_relocate - move a list to another area
+ * @area: the bytes of the area that holds the list
+ * @len: the number of bytes of the area
+ * @base: the address at which the area stands
+ * @target: the bytes of the target to write
+ * @target_len: the number of bytes of the target
+ * @target_base: the address at which the target stands; it need not be a multiple of 8
+ *
+ * tl_relocate() checks the list, and then copies its used bytes to the lowest address at or above target_base that equals base modulo
+ * 2^alignment, so that data stay aligned. total_size becomes what is left of the target from there, rounded down to a multiple of 8.
+ * Every other byte of the target becomes 0. The area is only read. The list is then in the target from the shift on, at
+ * target_base + shift.
+ *
+ * returns:
+ *	number 0, and the shift
+ *	each refusal of tl_check(), and TL_READONLY as in tl_add()
+ *	TL_TARGET, target_base + target_len exceeds 2^48 or target_len exceeds 65,536
+ *	TL_ROOM, shift + used_size exceeds target_len
+ */
+tl_done tl_relocate(const uint8_t *area, size_t len, uint64_t base, uint8_t *target, size_t target_len, uint64_t target_base);
 
 #ifdef __cplusplus
 }

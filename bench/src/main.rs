@@ -1,88 +1,145 @@
 //! Times the library beside plain Rust in one run, both fully optimised: `make bench`.
 mod plain;
 
-use plain::Checked;
+use plain::{Checked, Done};
 use std::hint::black_box;
 use std::time::Instant;
 
 extern "C" {
     fn tl_check(area: *const u8, len: usize, base: u64) -> Checked;
+    fn tl_add(area: *mut u8, len: usize, base: u64, tag: u32, data: *const u8, n: usize, voids: bool) -> Done;
+    fn tl_void(area: *mut u8, len: usize, base: u64, tag: u32, n: u64) -> Done;
 }
 
 const LENGTH: usize = 65536;
 const BASE: u64 = 0x1000;
+const LAST: u32 = 0xff_f001;
+const DATA: [u8; 64] = [0x5a; 64];
 
 fn library_check(area: &[u8]) -> Checked {
     unsafe { tl_check(area.as_ptr(), area.len(), BASE) }
 }
 
-fn plain_check(area: &[u8]) -> Checked {
-    plain::check(area, BASE, false)
+fn library_add(area: &mut [u8], voids: bool) -> Done {
+    unsafe { tl_add(area.as_mut_ptr(), area.len(), BASE, LAST, DATA.as_ptr(), DATA.len(), voids) }
 }
 
-/// A full list with checksums on, of entries with `size` bytes of data each.
-fn full_list(size: usize) -> Vec<u8> {
+fn library_void(area: &mut [u8]) -> Done {
+    unsafe { tl_void(area.as_mut_ptr(), area.len(), BASE, LAST, 0) }
+}
+
+/// A list of 65,536 bytes with checksums on: entries with a tag and a data size each, in order, from 24 on.
+fn list(entries: impl IntoIterator<Item = (u32, usize)>) -> Vec<u8> {
     let mut a = vec![0u8; LENGTH];
     a[..4].copy_from_slice(&0x4a0f_b10bu32.to_le_bytes());
     a[5..8].copy_from_slice(&[1, 24, 3]);
-    a[8..12].copy_from_slice(&(LENGTH as u32).to_le_bytes());
     a[12..16].copy_from_slice(&(LENGTH as u32).to_le_bytes());
     a[16] = 1;
-    for at in (24..LENGTH).step_by(8 + size) {
-        a[at] = 1;
+    let mut at = 24;
+    for (tag, size) in entries {
+        a[at..at + 3].copy_from_slice(&tag.to_le_bytes()[..3]);
         a[at + 3] = 8;
         a[at + 4..at + 8].copy_from_slice(&(size as u32).to_le_bytes());
         for (i, byte) in a[at + 8..at + 8 + size].iter_mut().enumerate() {
-            *byte = i as u8;
+            *byte = if tag == 0 { 0 } else { i as u8 };
         }
+        at += (8 + size).div_ceil(8) * 8;
     }
-    a[4] = a.iter().fold(0, |x, b| x ^ b);
+    a[8..12].copy_from_slice(&(at as u32).to_le_bytes());
+    a[4] = a[..at].iter().fold(0, |x, b| x ^ b);
     a
 }
 
 /// The least time of a call in nanoseconds, over rounds of calls that take turns.
-fn least<A, B>(rounds: usize, calls: usize, mut one: A, mut other: B) -> (f64, f64)
-where
-    A: FnMut(),
-    B: FnMut(),
-{
+fn least(rounds: usize, calls: usize, mut library: impl FnMut(), mut plain: impl FnMut()) -> (f64, f64) {
     let mut best = (f64::MAX, f64::MAX);
     for _ in 0..rounds {
-        let t = Instant::now();
-        for _ in 0..calls {
-            one();
-        }
-        best.0 = best.0.min(t.elapsed().as_nanos() as f64 / calls as f64);
-        let t = Instant::now();
-        for _ in 0..calls {
-            other();
-        }
-        best.1 = best.1.min(t.elapsed().as_nanos() as f64 / calls as f64);
+        best.0 = best.0.min(time(calls, &mut library));
+        best.1 = best.1.min(time(calls, &mut plain));
     }
     best
 }
 
+fn time(calls: usize, call: &mut impl FnMut()) -> f64 {
+    let start = Instant::now();
+    for _ in 0..calls {
+        call();
+    }
+    start.elapsed().as_nanos() as f64 / calls as f64
+}
+
 fn report(what: &str, (library, plain): (f64, f64)) {
-    println!("{what:<44} library {library:>9.0} ns  plain Rust {plain:>9.0} ns  ratio {:.2}", library / plain);
+    println!("{what:<52} library {library:>8.0} ns  plain Rust {plain:>8.0} ns  ratio {:.2}", library / plain);
+}
+
+fn time_check(what: &str, area: &[u8]) {
+    let expected = plain::check(area, BASE, false);
+    assert_eq!(expected.number, 0, "{what}");
+    assert_eq!(library_check(area), expected, "{what}");
+    let times = least(
+        200,
+        50,
+        || {
+            black_box(library_check(black_box(area)));
+        },
+        || {
+            black_box(plain::check(black_box(area), BASE, false));
+        },
+    );
+    report(what, times);
+}
+
+/// Times an edit. Each call is followed by putting back the header and the last 256 bytes, which is all that these edits change.
+fn time_edit(what: &str, area: &[u8], library: impl Fn(&mut [u8]) -> Done, plain: impl Fn(&mut [u8]) -> Done) {
+    let put_back = |a: &mut Vec<u8>| {
+        a[..24].copy_from_slice(&area[..24]);
+        a[LENGTH - 256..].copy_from_slice(&area[LENGTH - 256..]);
+    };
+    let (mut one, mut other) = (area.to_vec(), area.to_vec());
+    assert_eq!(plain(&mut other).number, 0, "{what}");
+    assert_eq!(library(&mut one), plain(&mut area.to_vec()), "{what}");
+    assert!(one == other, "{what}: the bytes differ");
+    put_back(&mut one);
+    put_back(&mut other);
+    assert!(one == area && other == area, "{what}: more bytes changed");
+    let times = least(
+        200,
+        50,
+        || {
+            black_box(library(black_box(&mut one)));
+            put_back(&mut one);
+        },
+        || {
+            black_box(plain(black_box(&mut other)));
+            put_back(&mut other);
+        },
+    );
+    report(what, times);
 }
 
 fn main() {
-    for (what, size) in [("check, 65,536 bytes, one entry", LENGTH - 32), ("check, 65,536 bytes, entries of 8 bytes", 0)] {
-        let area = full_list(size);
-        assert_eq!(library_check(&area), plain_check(&area));
-        assert_eq!(library_check(&area).number, 0);
-        report(
-            what,
-            least(
-                200,
-                50,
-                || {
-                    black_box(library_check(black_box(&area)));
-                },
-                || {
-                    black_box(plain_check(black_box(&area)));
-                },
-            ),
-        );
-    }
+    time_check("check, 65,536 bytes, one entry", &list([(1, LENGTH - 32)]));
+    time_check("check, 65,536 bytes, entries of 8 bytes", &list((0..(LENGTH - 24) / 8).map(|_| (1, 0))));
+    // entries of 32 bytes each up to byte 65,464, then 72 bytes of room
+    let rows = (0..2045).map(|_| (1, 24));
+    time_edit(
+        "add 64 bytes at the tail, entries of 32 bytes",
+        &list(rows.clone()),
+        |a| library_add(a, false),
+        |a| plain::add(a, BASE, LAST, &DATA, false),
+    );
+    time_edit(
+        "void the last entry, entries of 32 bytes",
+        &list(rows.chain([(LAST, 64)])),
+        library_void,
+        |a| plain::void(a, BASE, LAST, 0),
+    );
+    // voids of 24 bytes each, then one of 72
+    let voids = (0..2726).map(|_| (0, 16)).chain([(0, 64)]);
+    time_edit(
+        "add 64 bytes into the last of many voids",
+        &list(voids),
+        |a| library_add(a, true),
+        |a| plain::add(a, BASE, LAST, &DATA, true),
+    );
 }

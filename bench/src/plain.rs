@@ -90,3 +90,113 @@ pub fn check(area: &[u8], base: u64, editing: bool) -> Checked {
     }
     Checked { number: 0, version: version as u32, used, total, alignment: alignment as u32, live, voids }
 }
+
+#[repr(C)]
+#[derive(Clone, Copy, Debug, Default, PartialEq, Eq)]
+pub struct Done {
+    pub number: u32,
+    pub value: u32,
+}
+
+fn refused_edit(number: u32) -> Done {
+    Done { number, value: 0 }
+}
+
+fn xor(bytes: &[u8]) -> u8 {
+    bytes.iter().fold(0, |x, b| x ^ b)
+}
+
+/// Places, tags and data sizes of an accepted version 1 list.
+fn entries(list: &[u8]) -> impl Iterator<Item = (usize, u32, usize)> + '_ {
+    let mut at = 24;
+    std::iter::from_fn(move || {
+        if at >= list.len() {
+            return None;
+        }
+        let head = u64::from_le_bytes(list[at..at + 8].try_into().unwrap());
+        let entry = (at, (head & 0xff_ffff) as u32, (head >> 32) as usize);
+        at += align8(8 + entry.2 as u64) as usize;
+        Some(entry)
+    })
+}
+
+fn length_allowed(tag: u32, n: usize) -> bool {
+    match tag {
+        6 => n == 12,
+        0x100 => n == 8,
+        0x104 => n == 16,
+        _ => true,
+    }
+}
+
+fn put_header(area: &mut [u8], at: usize, tag: u32, size: usize) {
+    area[at..at + 3].copy_from_slice(&tag.to_le_bytes()[..3]);
+    area[at + 3] = 8;
+    area[at + 4..at + 8].copy_from_slice(&(size as u32).to_le_bytes());
+}
+
+/// Writes one stretch and the header fields, and patches the checksum from the old and the new bytes.
+fn write(area: &mut [u8], used: usize, new_used: usize, at: usize, len: usize, fill: impl FnOnce(&mut [u8])) {
+    let old = xor(&area[at..used.min(at + len).max(at)]) ^ xor(&area[8..12]);
+    fill(area);
+    area[8..12].copy_from_slice(&(new_used as u32).to_le_bytes());
+    if area[16] & 1 == 1 {
+        area[4] ^= old ^ xor(&area[8..12]) ^ xor(&area[at..at + len]);
+    }
+}
+
+/// Add, with the same answers and bytes as the library's.
+#[inline(never)]
+pub fn add(area: &mut [u8], base: u64, tag: u32, data: &[u8], use_voids: bool) -> Done {
+    let c = check(area, base, true);
+    if c.number != 0 {
+        return refused_edit(c.number);
+    }
+    if tag == 0 || tag > 0xff_ffff || (0x80_0000..=0xff_efff).contains(&tag) {
+        return refused_edit(9);
+    }
+    let n = data.len();
+    if !length_allowed(tag, n) {
+        return refused_edit(10);
+    }
+    let used = c.used as usize;
+    let void = if use_voids { entries(&area[..used]).find(|e| e.1 == 0 && e.2 >= n) } else { None };
+    let padded = align8(n as u64) as usize;
+    let (at, new_used, rest) = match void {
+        Some((at, _, size)) => (at, used, size - padded),
+        None if (c.total as usize - used) < 8 + padded => return refused_edit(14),
+        None => (used, used + 8 + padded, 0),
+    };
+    let len = 8 + padded + if rest >= 8 { 8 } else { 0 };
+    write(area, used, new_used, at, len, |a| {
+        put_header(a, at, tag, n);
+        a[at + 8..at + 8 + n].copy_from_slice(data);
+        a[at + 8 + n..at + 8 + padded].fill(0);
+        if rest >= 8 {
+            put_header(a, at + 8 + padded, 0, rest - 8);
+        }
+    });
+    Done { number: 0, value: at as u32 + 8 }
+}
+
+/// Void, with the same answers and bytes as the library's.
+#[inline(never)]
+pub fn void(area: &mut [u8], base: u64, tag: u32, n: u64) -> Done {
+    let c = check(area, base, true);
+    if c.number != 0 {
+        return refused_edit(c.number);
+    }
+    if tag == 0 || tag > 0xff_ffff {
+        return refused_edit(9);
+    }
+    let used = c.used as usize;
+    let Some((at, _, size)) = entries(&area[..used]).filter(|e| e.1 == tag).nth(n as usize) else {
+        return refused_edit(13);
+    };
+    let padded = align8(size as u64) as usize;
+    write(area, used, used, at, 8 + padded, |a| {
+        put_header(a, at, 0, padded);
+        a[at + 8..at + 8 + padded].fill(0);
+    });
+    Done { number: 0, value: at as u32 }
+}

@@ -45,9 +45,7 @@ impl Bench {
             let (tag, n) = params::wanted(rng, &facts);
             self.find(list, tag, n)?;
         }
-        #[cfg(feature = "edits")]
         self.edits(rng, list, &facts)?;
-        #[cfg(feature = "relocate")]
         self.relocations(rng, list, &facts)?;
         Ok(())
     }
@@ -95,7 +93,6 @@ impl Bench {
 
 impl Asked<'_> {
     /// A report where the model itself does not keep demand 3.
-    #[cfg(feature = "edits")]
     pub fn demand(&self, held: Result<(), String>, buffers: &[Buffer]) -> Result<(), String> {
         held.map_err(|broken| format!("{}\n  {broken}", self.with_inputs(buffers)))
     }

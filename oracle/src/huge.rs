@@ -1,7 +1,6 @@
 //! Lengths over 2^32, which would do if they were cut to 32 bits. Document 01 refuses each of these
 //! calls ("L is at most 65,536", SHAPE, TARGET, ROOM), so no byte changes.
 
-#[cfg(feature = "edits")]
 use crate::compare::untouched;
 use crate::compare::{Asked, Bench};
 use crate::lent::Lent;
@@ -38,11 +37,8 @@ impl Bench {
         };
         huge.bytes()[..SMALL].copy_from_slice(&list);
         self.read_huge_area(&mut huge)?;
-        #[cfg(feature = "edits")]
         self.edit_huge_area(&mut huge)?;
-        #[cfg(feature = "relocate")]
         self.relocate_huge(&list, &mut huge)?;
-        #[cfg(feature = "edits")]
         self.add_huge_data(&list, &mut huge)?;
         if huge.is_zero_behind(&list) {
             Ok(())
@@ -61,7 +57,6 @@ impl Bench {
     }
 }
 
-#[cfg(feature = "edits")]
 impl Bench {
     fn edit_huge_area(&mut self, huge: &mut Lent) -> Result<(), String> {
         let bytes = [5, 6, 7];
@@ -97,7 +92,6 @@ impl Bench {
     }
 }
 
-#[cfg(feature = "relocate")]
 impl Bench {
     /// From the huge area to a small target, and from the small list to the huge target.
     fn relocate_huge(&mut self, list: &[u8], huge: &mut Lent) -> Result<(), String> {

@@ -21,7 +21,11 @@ impl Lent {
 
     /// Where the library finds the bytes. It may write where it should not, to a buffer it only
     /// reads or to a guard, and that must be seen; so the pointer is good for writing everywhere.
+    /// Every second empty buffer is lent as NULL, as C code does that has nothing to lend.
     pub fn pointer(&mut self) -> *mut u8 {
+        if self.len == 0 && self.start % 2 == 0 {
+            return std::ptr::null_mut();
+        }
         self.held.as_mut_ptr().wrapping_add(self.start)
     }
 
@@ -30,7 +34,6 @@ impl Lent {
     }
 
     /// Makes the buffer shorter; what is cut off belongs to the guard behind.
-    #[cfg(feature = "edits")]
     pub fn cut(&mut self, len: usize) {
         assert!(len <= self.len);
         self.len = len;

@@ -2,13 +2,22 @@
 
 use crate::lent::Lent;
 use crate::watch;
-use oracle::model::{Checked, Found};
+use oracle::model::{Checked, Done, Found};
 use oracle::tally::Call;
 
+#[rustfmt::skip]
 #[link(name = "transfer_list", kind = "static")]
 extern "C" {
     fn tl_check(area: *const u8, len: usize, base: u64) -> Checked;
     fn tl_find(area: *const u8, len: usize, base: u64, tag: u32, n: u64) -> Found;
+    fn tl_create(area: *mut u8, len: usize, base: u64, has_checksum: bool) -> Done;
+    fn tl_add(area: *mut u8, len: usize, base: u64, tag: u32,
+              data: *const u8, data_len: usize, use_voids: bool) -> Done;
+    fn tl_add_aligned(area: *mut u8, len: usize, base: u64, tag: u32,
+                      data: *const u8, data_len: usize, exponent: u32) -> Done;
+    fn tl_void(area: *mut u8, len: usize, base: u64, tag: u32, n: u64) -> Done;
+    fn tl_relocate(area: *const u8, len: usize, base: u64,
+                   target: *mut u8, target_len: usize, target_base: u64) -> Done;
 }
 
 // SAFETY of every call below: a Lent owns the bytes behind its pointer, its length is theirs, and
@@ -24,65 +33,27 @@ pub fn find(area: &mut Lent, base: u64, tag: u32, n: u64) -> Found {
     unsafe { tl_find(area.pointer(), area.len(), base, tag, n) }
 }
 
-#[cfg(feature = "edits")]
-pub use edits::{add, add_aligned, create, void};
-
-#[cfg(feature = "edits")]
-mod edits {
-    use crate::lent::Lent;
-    use crate::watch;
-    use oracle::model::Done;
-    use oracle::tally::Call;
-
-    #[rustfmt::skip]
-    extern "C" {
-        fn tl_create(area: *mut u8, len: usize, base: u64, has_checksum: bool) -> Done;
-        fn tl_add(area: *mut u8, len: usize, base: u64, tag: u32,
-                  data: *const u8, data_len: usize, use_voids: bool) -> Done;
-        fn tl_add_aligned(area: *mut u8, len: usize, base: u64, tag: u32,
-                          data: *const u8, data_len: usize, exponent: u32) -> Done;
-        fn tl_void(area: *mut u8, len: usize, base: u64, tag: u32, n: u64) -> Done;
-    }
-
-    pub fn create(area: &mut Lent, base: u64, has_checksum: bool) -> Done {
-        watch::call(Call::Create);
-        unsafe { tl_create(area.pointer(), area.len(), base, has_checksum) }
-    }
-
-    pub fn add(area: &mut Lent, base: u64, tag: u32, data: &mut Lent, use_voids: bool) -> Done {
-        watch::call(Call::Add);
-        unsafe { tl_add(area.pointer(), area.len(), base, tag, data.pointer(), data.len(), use_voids) }
-    }
-
-    pub fn add_aligned(area: &mut Lent, base: u64, tag: u32, data: &mut Lent, exponent: u32) -> Done {
-        watch::call(Call::AddAligned);
-        unsafe { tl_add_aligned(area.pointer(), area.len(), base, tag, data.pointer(), data.len(), exponent) }
-    }
-
-    pub fn void(area: &mut Lent, base: u64, tag: u32, n: u64) -> Done {
-        watch::call(Call::Void);
-        unsafe { tl_void(area.pointer(), area.len(), base, tag, n) }
-    }
+pub fn create(area: &mut Lent, base: u64, has_checksum: bool) -> Done {
+    watch::call(Call::Create);
+    unsafe { tl_create(area.pointer(), area.len(), base, has_checksum) }
 }
 
-#[cfg(feature = "relocate")]
-pub use relocation::relocate;
+pub fn add(area: &mut Lent, base: u64, tag: u32, data: &mut Lent, use_voids: bool) -> Done {
+    watch::call(Call::Add);
+    unsafe { tl_add(area.pointer(), area.len(), base, tag, data.pointer(), data.len(), use_voids) }
+}
 
-#[cfg(feature = "relocate")]
-mod relocation {
-    use crate::lent::Lent;
-    use crate::watch;
-    use oracle::model::Done;
-    use oracle::tally::Call;
+pub fn add_aligned(area: &mut Lent, base: u64, tag: u32, data: &mut Lent, exponent: u32) -> Done {
+    watch::call(Call::AddAligned);
+    unsafe { tl_add_aligned(area.pointer(), area.len(), base, tag, data.pointer(), data.len(), exponent) }
+}
 
-    #[rustfmt::skip]
-    extern "C" {
-        fn tl_relocate(area: *const u8, len: usize, base: u64,
-                       target: *mut u8, target_len: usize, target_base: u64) -> Done;
-    }
+pub fn void(area: &mut Lent, base: u64, tag: u32, n: u64) -> Done {
+    watch::call(Call::Void);
+    unsafe { tl_void(area.pointer(), area.len(), base, tag, n) }
+}
 
-    pub fn relocate(area: &mut Lent, base: u64, target: &mut Lent, target_base: u64) -> Done {
-        watch::call(Call::Relocate);
-        unsafe { tl_relocate(area.pointer(), area.len(), base, target.pointer(), target.len(), target_base) }
-    }
+pub fn relocate(area: &mut Lent, base: u64, target: &mut Lent, target_base: u64) -> Done {
+    watch::call(Call::Relocate);
+    unsafe { tl_relocate(area.pointer(), area.len(), base, target.pointer(), target.len(), target_base) }
 }

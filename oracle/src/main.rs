@@ -3,12 +3,10 @@
 //! `oracle [LISTS [SEED]]`; the list after that of seed S is the one of seed S + 1.
 
 mod compare;
-#[cfg(feature = "edits")]
 mod edits;
 mod huge;
 mod lent;
 mod library;
-#[cfg(feature = "relocate")]
 mod relocations;
 mod watch;
 

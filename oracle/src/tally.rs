@@ -32,15 +32,6 @@ impl Call {
         }
     }
 
-    /// Whether this build compares the call.
-    fn is_compared(self) -> bool {
-        match self {
-            Call::Check | Call::Find => true,
-            Call::Create | Call::Add | Call::AddAligned | Call::Void => cfg!(feature = "edits"),
-            Call::Relocate => cfg!(feature = "relocate"),
-        }
-    }
-
     /// The numbers the call can answer: those of "When a call is turned away" that concern it.
     fn possible(self) -> &'static [usize] {
         match self {
@@ -72,7 +63,7 @@ impl Tally {
         for number in 0..NUMBERS {
             write!(table, "{number:>9}").unwrap();
         }
-        for call in Call::ALL.into_iter().filter(|call| call.is_compared()) {
+        for call in Call::ALL {
             write!(table, "\n{:<15}", call.name()).unwrap();
             for seen in self.0[call as usize] {
                 write!(table, "{seen:>9}").unwrap();
@@ -84,7 +75,7 @@ impl Tally {
     /// The calls with the numbers they can answer and never did.
     pub fn unseen(&self) -> Vec<String> {
         let mut unseen = Vec::new();
-        for call in Call::ALL.into_iter().filter(|call| call.is_compared()) {
+        for call in Call::ALL {
             for &number in call.possible() {
                 if self.0[call as usize][number] == 0 {
                     unseen.push(format!("{} never answered {number}", call.name()));

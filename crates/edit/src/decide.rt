@@ -107,7 +107,8 @@ fn void_plan(h: Header, e: Entry) -> Plan
     requires { ⌜ (e .at < 2 ^ 31) × (align8Rule (e .«data_size») < 2 ^ 32) ⌝ }
     ensures { λ r. ⌜ r ≡ planVoid h e ⌝ }
 {
-    let room = align8(e.data_size as usize);
+    let size = e.data_size as usize;
+    let room = align8(size);
     Plan {
         value: e.at as u32,
         checksum: 0,
@@ -225,7 +226,8 @@ pub fn decide_add_aligned(area: &[u8], base: u64, tag: u32, data: &[u8], exponen
     if tags::refuses_tag_add(tag) {
         return Planned::Refused(Refusal::Tag);
     }
-    if tags::refuses_shape(tag, data.len()) {
+    let n = data.len();
+    if tags::refuses_shape(tag, n) {
         return Planned::Refused(Refusal::Shape);
     }
     if refuses_align(exponent) {

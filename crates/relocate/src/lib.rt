@@ -6,7 +6,7 @@ use rules::Refusal;
 use walk::check;
 use walk::header;
 ghost use mathlib.Core.Path.{_≡_};
-ghost use Prim.Native.Nat.{_+_, _-_, _≤_, _<_, _^_};
+ghost use Prim.Native.Nat.{_+_, _≤_, _<_, _^_};
 ghost use lib.ListN.{length};
 ghost use Rattle.rules.specs.Refusals.{refusesTarget};
 ghost use Rattle.rules.specs.Outcome.{answer, bytesAfter};

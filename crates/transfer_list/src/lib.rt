@@ -1,12 +1,19 @@
 // The functions that are shipped, for C. Each is thin and has the whole statement: no requires, an equation for the answer and one for
 // each buffer that is lent for writing.
+use create::create;
+use edit::edits;
+use relocate::relocate;
 use rules::CheckAnswer;
+use rules::DoneAnswer;
 use rules::FindAnswer;
 use walk::check;
 use walk::find;
 ghost use mathlib.Core.Path.{_≡_};
 ghost use Rattle.rules.specs.Check.{check as checkRule, checkAnswer};
 ghost use Rattle.rules.specs.Find.{find as findRule, findAnswer};
+ghost use Rattle.rules.specs.Outcome.{answer, bytesAfter, doneAnswer};
+ghost use Rattle.rules.specs.Create.{create as createRule};
+ghost use Rattle.rules.specs.Edit.{run, add, addAligned, void, relocate as relocateEdit};
 
 // Checks the list in area, which stands at base.
 #[no_mangle]
@@ -22,4 +29,66 @@ pub extern "C" fn tl_find(area: &[u8], base: u64, tag: u32, n: u64) -> FindAnswe
     ensures { λ r. ⌜ r ≡ findAnswer (findRule (now (area .entry)) base tag n) ⌝ }
 {
     find::find(area, base, tag, n).numbers()
+}
+
+// Writes a new list without entries. Answers the total.
+#[no_mangle]
+pub extern "C" fn tl_create(area: &mut [u8], base: u64, has_checksum: bool) -> DoneAnswer
+    ensures { λ r. ⌜ r ≡ doneAnswer (answer (createRule (now (area .entry)) base «has_checksum»)) ⌝ }
+    ensures { λ _. ⌜ now (area .exit) ≡ bytesAfter (now (area .entry)) (createRule (now (area .entry)) base «has_checksum») ⌝ }
+{
+    create::create(area, base, has_checksum).numbers()
+}
+
+// Adds an entry. Answers the new data's offset.
+#[no_mangle]
+pub extern "C" fn tl_add(
+    area: &mut [u8],
+    base: u64,
+    tag: u32,
+    data: &[u8],
+    use_voids: bool,
+) -> DoneAnswer
+    ensures { λ r. ⌜ r ≡ doneAnswer (answer (run (add tag (now («data» .entry)) «use_voids») (now (area .entry)) base)) ⌝ }
+    ensures { λ _. ⌜ now (area .exit) ≡ bytesAfter (now (area .entry)) (run (add tag (now («data» .entry)) «use_voids») (now (area .entry)) base) ⌝ }
+{
+    edits::add(area, base, tag, data, use_voids).numbers()
+}
+
+// Adds an entry whose data address is a multiple of 2^exponent. Answers the new data's offset.
+#[no_mangle]
+pub extern "C" fn tl_add_aligned(
+    area: &mut [u8],
+    base: u64,
+    tag: u32,
+    data: &[u8],
+    exponent: u32,
+) -> DoneAnswer
+    ensures { λ r. ⌜ r ≡ doneAnswer (answer (run (addAligned tag (now («data» .entry)) exponent) (now (area .entry)) base)) ⌝ }
+    ensures { λ _. ⌜ now (area .exit) ≡ bytesAfter (now (area .entry)) (run (addAligned tag (now («data» .entry)) exponent) (now (area .entry)) base) ⌝ }
+{
+    edits::add_aligned(area, base, tag, data, exponent).numbers()
+}
+
+// Turns occurrence n of a tag into a void. Answers the voided entry's offset.
+#[no_mangle]
+pub extern "C" fn tl_void(area: &mut [u8], base: u64, tag: u32, n: u64) -> DoneAnswer
+    ensures { λ r. ⌜ r ≡ doneAnswer (answer (run (void tag n) (now (area .entry)) base)) ⌝ }
+    ensures { λ _. ⌜ now (area .exit) ≡ bytesAfter (now (area .entry)) (run (void tag n) (now (area .entry)) base) ⌝ }
+{
+    edits::void(area, base, tag, n).numbers()
+}
+
+// Relocates the list into the target. Answers the shift.
+#[no_mangle]
+pub extern "C" fn tl_relocate(
+    area: &[u8],
+    base: u64,
+    target: &mut [u8],
+    target_base: u64,
+) -> DoneAnswer
+    ensures { λ r. ⌜ r ≡ doneAnswer (answer (run (relocateEdit (now (target .entry)) «target_base») (now (area .entry)) base)) ⌝ }
+    ensures { λ _. ⌜ now (target .exit) ≡ bytesAfter (now (target .entry)) (run (relocateEdit (now (target .entry)) «target_base») (now (area .entry)) base) ⌝ }
+{
+    relocate::relocate(area, base, target, target_base).numbers()
 }

@@ -1,36 +1,54 @@
+-- The definition, by the same test; the shift makes the power of two.
+use mathlib.Core.Path.{_≡_}
+use Prim.Native.Nat.{ℕ, _+_, _*_, _%_, _^_, _≤_, _<_}
+use native.Mathlib.Omega.{arith}
+use native.Mathlib.Nat.{mod-lt}
+use lib.Pow.{pow-mono}
+use borrow.Author.Tests.{eq-eqb, ne-eqb}
+use Rattle.demand3.proofs.Power.{power-positive}
+use Rattle.edit.specs.Decide.{paddingFor}
 use borrow.Author.Needs.{needs}
 use Rattle.edit.proofs.decide.padding_for.Statement.{statement}
 use Rattle.edit.proofs.decide.padding_for.Tie as tie
-use Rattle.edit.proofs.decide.padding_for.Reads as reads
-use Rattle.edit.proofs.decide.padding_for.Lts as lts
 
--- src/decide.rt:177:13
 shl-m : tie.Need-shl-m
 shl-m c = search needs
 
--- src/decide.rt:178:14
 add-p : tie.Need-add-p
 add-p c = search needs
 
--- src/decide.rt:178:14
 add-p-2 : tie.Need-add-p-2
 add-p-2 c = search needs
 
--- src/decide.rt:178:13
+-- one shifted by less than 32 is the power of two
+shifted : (k : ℕ) → k < 32 → 1 * 2 ^ k % 18446744073709551616 ≡ 2 ^ k
+shifted k h =
+    let l : k ≤ 32 = omega arith in
+    let m : 2 ^ k ≤ 2 ^ 32 = pow-mono l in
+    omega arith
+
 rem-p : tie.Need-rem-p
-rem-p c = ?
+rem-p c = let e = shifted (c .args .exponent) (c .pre .1) in rw e (power-positive _)
 
--- src/decide.rt:180:9
 returns : tie.Need-returns
-returns c = ?
+unfolding paddingFor
+returns c =
+    let e = shifted (c .before .args .exponent) (c .before .pre .1) in
+    let z = rw e at (c .if1 .taken) in
+    rw (eq-eqb _ _ z)
 
--- src/decide.rt:182:6
 sub-result : tie.Need-sub-result
-sub-result c = ?
+sub-result c =
+    let e = shifted (c .before .args .exponent) (c .before .pre .1) in
+    let l : (c .before .args .base + c .before .args .used + 8) % 2 ^ (c .before .args .exponent) < 2 ^ (c .before .args .exponent) = mod-lt _ (power-positive _) in
+    rw e (omega arith)
 
--- src/decide.rt:173:1
 returns-2 : tie.Need-returns-2
-returns-2 c = ?
+unfolding paddingFor
+returns-2 c =
+    let e = shifted (c .before .args .exponent) (c .before .pre .1) in
+    let z = rw e at (c .if1 .left) in
+    rw (e, ne-eqb _ _ z)
 
 pub padding-for-spec : {M : Type 1} → statement M
 padding-for-spec = tie.close (tie.spec shl-m add-p add-p-2 rem-p returns sub-result returns-2)

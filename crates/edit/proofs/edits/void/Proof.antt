@@ -1,51 +1,46 @@
+-- A refusal is the decision's and leaves the bytes; a plan that is written leaves the bytes that the decision comes to.
+use mathlib.Core.Path.{refl}
+use Rattle.edit.proofs.Laws.{refuses, goes}
 use borrow.Author.Needs.{needs}
 use Rattle.edit.proofs.edits.void.Statement.{statement}
 use Rattle.edit.proofs.edits.void.Tie as tie
-use Rattle.edit.proofs.edits.void.Reads as reads
-use Rattle.edit.proofs.edits.void.Lts as lts
-use Rattle.edit.proofs.decide.decide_void.Reads as decide-void-reads
-use Rattle.plan.proofs.Planned.refusal.Reads as refusal-reads
-use Rattle.plan.proofs.write.write_plan.Reads as write-plan-reads
 
--- src/edits.rt:42:9
 decide-void-requires : tie.Need-decide-void-requires
 decide-void-requires c κs = search needs
 
--- src/edits.rt:43:21
 enum-known-planned : tie.Need-enum-known-planned
 enum-known-planned c = search needs
 
--- src/edits.rt:44:30
 enum-told : tie.Need-enum-told
 enum-told c = search needs
 
--- src/edits.rt:44:30
 refusal-requires : tie.Need-refusal-requires
 refusal-requires c κs = search needs
 
--- src/edits.rt:44:9
 same-length : tie.Need-same-length
 same-length c = search needs
 
--- src/edits.rt:44:9
 returns : tie.Need-returns
-returns c = ?
+returns c =
+    let k = c .before in
+    let e = refuses _ _ _ _ (rw (k .enum-told .given .1) at (c .before .before .before .decide-void .ensures)) in
+    rw (e, c .refusal .ensures, k .enum-told .given .1) (refl, refl)
 
--- src/edits.rt:47:32
 slice-aggregate-write-plan : tie.Need-slice-aggregate-write-plan
 slice-aggregate-write-plan c = search needs
 
--- src/edits.rt:47:5
 write-plan-requires : tie.Need-write-plan-requires
-write-plan-requires c κs = ?
+write-plan-requires c κs =
+    let d = rw (c .before .before .before .planned .given .1) at (c .before .before .before .before .before .decide-void .ensures) in
+    d .writable
 
--- src/edits.rt:38:1
 same-length-2 : tie.Need-same-length-2
 same-length-2 c = search needs
 
--- src/edits.rt:38:1
 returns-2 : tie.Need-returns-2
-returns-2 c = ?
+returns-2 c =
+    let e = goes _ _ _ _ (rw (c .before .before .before .before .before .before .planned .given .1) at (c .before .before .before .before .before .before .before .before .decide-void .ensures)) in
+    rw e (refl, c .before .before .write-plan .ensures)
 
 pub void-spec : {M : Type 1} → statement M
 void-spec =
