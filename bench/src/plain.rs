@@ -64,7 +64,7 @@ pub fn check(area: &[u8], base: u64, editing: bool) -> Checked {
         return refused(6);
     }
     let list = &area[..used as usize];
-    let sum_ok = if area[16] & 1 == 1 { list.iter().fold(0, |x, b| x ^ b) == 0 } else { area[4] == 0 };
+    let sum_ok = if area[16] & 1 == 1 { xor(list) == 0 } else { area[4] == 0 };
     if !sum_ok {
         return refused(7);
     }
@@ -102,6 +102,7 @@ fn refused_edit(number: u32) -> Done {
     Done { number, value: 0 }
 }
 
+#[inline(never)]
 fn xor(bytes: &[u8]) -> u8 {
     bytes.iter().fold(0, |x, b| x ^ b)
 }

@@ -18,7 +18,6 @@ fn show_bytes(s: &[u8]) {
         io::print_hex(1, s[i] as u64, 2);
         i += 1;
     }
-    io::write_all(1, b"\n");
 }
 
 fn show_check(example: &[u8], area: &[u8], base: u64) {
@@ -43,6 +42,7 @@ fn show_find(example: &[u8], area: &[u8], base: u64, tag: u32, n: u64) {
     number(a.offset);
     number(a.size);
     show_bytes(walk::find::find_data(area, base, tag, n));
+    io::write_all(1, b"\n");
 }
 
 fn show_done(example: &[u8], d: Done, bytes: &[u8]) {
@@ -51,6 +51,7 @@ fn show_done(example: &[u8], d: Done, bytes: &[u8]) {
     number(a.number);
     number(a.value);
     show_bytes(bytes);
+    io::write_all(1, b"\n");
 }
 
 // A new list of 64 bytes; tag 1 with aa bb cc; that entry voided; tag 2 without data in its place.
@@ -109,7 +110,7 @@ fn example_g() {
     show_done(b"G add aligned", refused, &small);
 }
 
-// The list of exponent 6, and its relocations to 200, 128 and 127 bytes.
+// The list of exponent 6, and its relocations.
 fn example_h() {
     let mut area = [0u8; 80];
     create::create(&mut area, 0x1000, true);
@@ -117,15 +118,27 @@ fn example_h() {
     show_done(b"G add aligned", aligned, &area);
     show_check(b"G", &area, 0x1000);
     show_find(b"G", &area, 0x1000, 4, 0);
+    relocations(&area);
+}
+
+// To 200, 128 and 127 bytes.
+fn relocations(area: &[u8]) {
     let mut large = [0xffu8; 200];
-    let moved = relocate::relocate(&area, 0x1000, &mut large, 0x2008);
+    let moved = relocate::relocate(area, 0x1000, &mut large, 0x2008);
     show_done(b"H relocate", moved, &large);
     let mut middle = [0xffu8; 128];
-    let fitted = relocate::relocate(&area, 0x1000, &mut middle, 0x2008);
+    let fitted = relocate::relocate(area, 0x1000, &mut middle, 0x2008);
     show_done(b"H relocate", fitted, &middle);
     let mut small = [0xffu8; 127];
-    let refused = relocate::relocate(&area, 0x1000, &mut small, 0x2008);
+    let refused = relocate::relocate(area, 0x1000, &mut small, 0x2008);
     show_done(b"H relocate", refused, &small);
+}
+
+// Only the first 24 bytes are shown.
+fn show_first(example: &[u8], d: Done, bytes: &[u8]) {
+    if 24 <= bytes.len() {
+        show_done(example, d, &bytes[..24]);
+    }
 }
 
 // Create with 24, 25, 65,536 and 65,537 bytes. Of the large ones the first 24 bytes are shown.
@@ -138,10 +151,10 @@ fn example_i() {
     show_done(b"I create", made, &least);
     let mut most = [0xffu8; 65536];
     let full = create::create(&mut most, 0x1000, true);
-    show_done(b"I create", full, &most[..24]);
+    show_first(b"I create", full, &most);
     let mut over = [0xffu8; 65537];
     let large = create::create(&mut over, 0x1000, true);
-    show_done(b"I create", large, &over[..24]);
+    show_first(b"I create", large, &over);
 }
 
 // Version 2 with a bad checksum: add says READONLY, check says CHECKSUM.

@@ -1,11 +1,12 @@
 -- A refused list, a refused target and too little room are the answer; otherwise the target is written as the rule has it.
-use mathlib.Core.Path.{_≡_, sym, _∙_}
+use mathlib.Core.Path.{_≡_, sym, ap, _∙_}
 use Prim.Native.Nat.{_+_, _-_, _≤_, _<_}
 use native.Mathlib.Omega.{arith}
 use mathlib.Core.Bool.{true}
 use lib.ListN.{length}
 use lib.Pow.{pow-pos}
 use borrow.Author.Tests.{lt-ltb, le-ltb}
+use Rattle.rules.specs.declared.Header.{Header}
 use Rattle.rules.specs.Area.{maxAddress, maxLength}
 use Rattle.rules.specs.Relocate.{shift, moveTo, relocate as relocateRule}
 use Rattle.laws.proofs.Check.{Sound, sound}
@@ -60,7 +61,8 @@ new-base-requires : tie.Need-new-base-requires
 new-base-requires c κs =
     let s = admitted (c .before .before .before) in
     let r = reached (c .before) in
-    (rw (c .read-header .ensures) (omega arith), omega arith)
+    let e = ap (λ (h : Header). h .alignment) (c .read-header .ensures) in
+    (omega arith, omega arith)
 
 -- the new base is at or above the target base, and near it
 least : (c : tie.After-new-base) → c .before .before .before .before .before .before .before .before .before .args .target-base ≤ c .new-base .result
@@ -69,7 +71,8 @@ least c = rw (c .new-base .ensures) (newBase-least _ _ _ (pow-pos _))
 near : (c : tie.After-new-base) → c .new-base .result - c .before .before .before .before .before .before .before .before .before .args .target-base < 4096
 near c =
     let s = admitted (c .before .before .before .before) in
-    rw (c .new-base .ensures) (shift-near _ _ _ (rw (c .before .read-header .ensures) (s .most)))
+    let e = ap (λ (h : Header). h .alignment) (c .before .read-header .ensures) in
+    rw (c .new-base .ensures) (shift-near _ _ _ (omega arith))
 
 sub-shift : tie.Need-sub-shift
 sub-shift c = least c
