@@ -16,3 +16,4 @@ pub mod AddAligned
 pub mod NewBase
 pub mod Relocate
 pub mod Demand3
+pub mod Answered

@@ -27,13 +27,13 @@ use Rattle.rules.specs.Outcome.{Outcome, refused, done}
 use Rattle.rules.specs.Add.{entryBytes, remainder, voidBehind, firstFit, addInVoid, addAtEnd, room}
 use Rattle.rules.specs.AddAligned.{voidBytes, paddingVoid, alignedBytes, addAlignedAtEnd}
 use Rattle.rules.specs.Void.{voidAt}
-use Rattle.rules.specs.Demand3.{AcceptedV1}
 use Rattle.laws.proofs.Walk.{or-false, header-least}
 use Rattle.laws.proofs.Check.{Sound, accepts, factsOf, occurs-inside, Admitted}
 use Rattle.laws.proofs.Patch.{edited, in-place, appended, appended-aligned, length-entryBytes}
 use Rattle.demand3.proofs.Row.{Fine}
 use Rattle.demand3.proofs.Live.{Parts, first-fit}
 use Rattle.demand3.proofs.Ready.{Ready, ready-of}
+use Rattle.demand3.proofs.Answered.{accepted}
 use Rattle.demand3.proofs.Change.{placed}
 use Rattle.demand3.proofs.Outcome.{tag-range}
 use Rattle.demand3.proofs.Power.{power-positive, power-eights, eights-mod}
@@ -49,31 +49,6 @@ use Rattle.edit.specs.declared.tags.TagRow.{TagRow}
 use Rattle.edit.specs.Decide.{planInVoid, planAtEnd, planVoid, paddingFor, endOutcome, Decides}
 
 -- ---- a list that is admitted to an edit
-
--- it passes the check too, and is of version 1
-pub accepted : (a : List ℕ) (base : ℕ) → Sound true a base → AcceptedV1 a base
-accepted a base s =
-    let t : Sound false a base = record {
-      base8 = s .base8;
-      reach = s .reach;
-      short = s .short;
-      long = s .long;
-      signed = s .signed;
-      versioned = s .versioned;
-      current = λ e. s .current refl;
-      header = s .header;
-      least = s .least;
-      most = s .most;
-      used8 = s .used8;
-      total8 = s .total8;
-      first = s .first;
-      used = s .used;
-      total = s .total;
-      summed = s .summed;
-      row = s .row;
-      walked = s .walked;
-    } in
-    record { facts = factsOf (headerOf a) (s .row); accepted = accepts false a base t; version = s .current refl }
 
 -- where one of its entries stands
 pub record Stands (a : List ℕ) (e : Entry) : Type 0 where

@@ -8,6 +8,7 @@ use lib.ListN.{length, take, drop, getD}
 use lib.Dec.{leb, ltb, eqb}
 use Rattle.rules.specs.declared.Entry.{Entry}
 use Rattle.rules.specs.declared.Facts.{Facts}
+use Rattle.rules.specs.declared.DoneAnswer.{DoneAnswer}
 use Rattle.rules.specs.declared.Checked.the-variants.{Accepted}
 use Rattle.rules.specs.Area.{align8}
 use Rattle.rules.specs.Header.{headerOf, entryHeaderSize, currentVersion}
@@ -157,3 +158,7 @@ Demand3 =
     → AcceptedV1 a base
     → run e a base ≡ done value bytes
     → Holds e a base value bytes
+
+-- the same of a call's answer in numbers and of the lent bytes afterwards: where the number is 0, all of it holds
+abbrev pub Keeps : Edit → List ℕ → ℕ → DoneAnswer → List ℕ → Type 0
+Keeps e a base r bytes = r .number ≡ 0 → Holds e a base (r .value) bytes

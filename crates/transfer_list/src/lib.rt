@@ -1,5 +1,5 @@
 // The functions that are shipped, for C. Each is thin and has the whole statement: no requires, an equation for the answer and one for
-// each buffer that is lent for writing.
+// each buffer that is lent for writing. The last clause of each edit is demand 3: where the number is 0, all of it holds.
 use create::create;
 use edit::edits;
 use relocate::relocate;
@@ -14,6 +14,7 @@ ghost use Rattle.rules.specs.Find.{find as findRule, findAnswer};
 ghost use Rattle.rules.specs.Outcome.{answer, bytesAfter, doneAnswer};
 ghost use Rattle.rules.specs.Create.{create as createRule};
 ghost use Rattle.rules.specs.Edit.{run, add, addAligned, void, relocate as relocateEdit};
+ghost use Rattle.rules.specs.Demand3.{Keeps};
 
 // Checks the list in area, which stands at base.
 #[no_mangle]
@@ -51,6 +52,7 @@ pub extern "C" fn tl_add(
 ) -> DoneAnswer
     ensures { λ r. ⌜ r ≡ doneAnswer (answer (run (add tag (now («data» .entry)) «use_voids») (now (area .entry)) base)) ⌝ }
     ensures { λ _. ⌜ now (area .exit) ≡ bytesAfter (now (area .entry)) (run (add tag (now («data» .entry)) «use_voids») (now (area .entry)) base) ⌝ }
+    ensures { λ r. ⌜ Keeps (add tag (now («data» .entry)) «use_voids») (now (area .entry)) base r (now (area .exit)) ⌝ }
 {
     edits::add(area, base, tag, data, use_voids).numbers()
 }
@@ -66,6 +68,7 @@ pub extern "C" fn tl_add_aligned(
 ) -> DoneAnswer
     ensures { λ r. ⌜ r ≡ doneAnswer (answer (run (addAligned tag (now («data» .entry)) exponent) (now (area .entry)) base)) ⌝ }
     ensures { λ _. ⌜ now (area .exit) ≡ bytesAfter (now (area .entry)) (run (addAligned tag (now («data» .entry)) exponent) (now (area .entry)) base) ⌝ }
+    ensures { λ r. ⌜ Keeps (addAligned tag (now («data» .entry)) exponent) (now (area .entry)) base r (now (area .exit)) ⌝ }
 {
     edits::add_aligned(area, base, tag, data, exponent).numbers()
 }
@@ -75,6 +78,7 @@ pub extern "C" fn tl_add_aligned(
 pub extern "C" fn tl_void(area: &mut [u8], base: u64, tag: u32, n: u64) -> DoneAnswer
     ensures { λ r. ⌜ r ≡ doneAnswer (answer (run (void tag n) (now (area .entry)) base)) ⌝ }
     ensures { λ _. ⌜ now (area .exit) ≡ bytesAfter (now (area .entry)) (run (void tag n) (now (area .entry)) base) ⌝ }
+    ensures { λ r. ⌜ Keeps (void tag n) (now (area .entry)) base r (now (area .exit)) ⌝ }
 {
     edits::void(area, base, tag, n).numbers()
 }
@@ -89,6 +93,7 @@ pub extern "C" fn tl_relocate(
 ) -> DoneAnswer
     ensures { λ r. ⌜ r ≡ doneAnswer (answer (run (relocateEdit (now (target .entry)) «target_base») (now (area .entry)) base)) ⌝ }
     ensures { λ _. ⌜ now (target .exit) ≡ bytesAfter (now (target .entry)) (run (relocateEdit (now (target .entry)) «target_base») (now (area .entry)) base) ⌝ }
+    ensures { λ r. ⌜ Keeps (relocateEdit (now (target .entry)) «target_base») (now (area .entry)) base r (now (target .exit)) ⌝ }
 {
     relocate::relocate(area, base, target, target_base).numbers()
 }

@@ -36,14 +36,14 @@ returns c =
     let h : room (start .args .area .now) < start .args .padding + (8 + align8 (length (start .args .«data» .now))) = omega arith in
     decides-refused _ _ _ _ (no-room _ _ _ _ _ h)
 
-at-end-requires : tie.Need-at-end-requires
-at-end-requires c κs = search needs
-
 -- the room is enough where the test says so
 enough : (c : tie.Else1) → c .before .before .before .before .before .before .args .padding + (8 + align8 (length (c .before .before .before .before .before .before .args .«data» .now))) ≤ room (c .before .before .before .before .before .before .args .area .now)
 enough c =
     let u = same-sizes _ _ _ (c .before .before .before .before .before .before .pre .0) in
     omega arith
+
+at-end-requires : tie.Need-at-end-requires
+at-end-requires c κs = search needs
 
 with-checksum-requires : tie.Need-with-checksum-requires
 with-checksum-requires c κs =
