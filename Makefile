@@ -17,7 +17,7 @@ SOURCES = crates.txt $(shell find crates -name '*.rt' -o -name '*.antt')
 C_FLAGS = -std=c99 $(CFLAGS) -Iinclude
 CARGO = cargo build --quiet --release --offline
 
-.PHONY: run show test lib install compare bench fmt-check header-check symbols-check size
+.PHONY: run show test lib install compare bench fmt-check header-check symbols-check oracle-test size
 
 run: target/demo/boot target/demo/show
 	target/demo/boot
@@ -27,7 +27,7 @@ run: target/demo/boot target/demo/show
 show: target/demo/show
 	target/demo/show $(FILE) $(BASE)
 
-test: fmt-check header-check symbols-check compare run
+test: fmt-check header-check symbols-check oracle-test compare run
 	rt ci
 
 lib: $(LIB)
@@ -48,6 +48,10 @@ install: $(LIB)
 compare: $(LIB)
 	$(CARGO) --manifest-path oracle/Cargo.toml --target-dir target/oracle
 	target/oracle/release/oracle $(LISTS) $(SEED)
+
+# the second program's own examples, which need no library
+oracle-test:
+	cargo test --quiet --offline --manifest-path oracle/Cargo.toml --target-dir target/oracle
 
 bench: $(LIB)
 	$(CARGO) --manifest-path bench/Cargo.toml --target-dir target/bench
