@@ -4,13 +4,13 @@ use Prim.Native.Nat.{ℕ, _+_, _-_, _%_, _≤_, _<_}
 use native.Mathlib.Omega.{arith}
 use native.Mathlib.Nat.{zero-add}
 use mathlib.Core.Bool.{Bool, true, false, _&&_}
-use mathlib.Core.List.{List, _++_, append-assoc, append-nil}
+use mathlib.Core.List.{List, _++_, append-assoc}
 use lib.ListN.{length, take, drop, set, replicate, length-append, length-replicate}
-use lib.Seq.{drop-length, take-at, set-getD}
+use lib.Seq.{take-at, set-getD}
 use lib.Dec.{leb}
 use borrow.Author.Tests.{leb-true}
 use Rattle.wire.specs.Bytes.{leBytes, xor, splice}
-use Rattle.wire.proofs.Splice.{splice-append, splice-snoc}
+use Rattle.wire.proofs.Splice.{splice-append, splice-snoc, splice-all}
 use Rattle.wire.proofs.Field.{length-leBytes}
 use Rattle.rules.specs.declared.Header.{Header}
 use Rattle.rules.specs.Area.{down8, multiple8, usable, maxLength, maxAddress}
@@ -53,11 +53,6 @@ fields a h l c v s m =
       next a p₂₀ (leBytes 4 (h .reserved)) 20 (simp (length-append, length-leBytes)),
     )
     (simp append-assoc)
-
--- as many new bytes as the list has are the list afterwards
-splice-all : (a new : List ℕ) → length new ≡ length a → splice a 0 new ≡ new
-unfolding splice
-splice-all a new e = rw (zero-add, e, drop-length, append-nil)
 
 -- a header and zeros behind it, up to the end of the list
 pub filled : (a h : List ℕ) → length h ≡ 24 → 24 ≤ length a → splice (splice a 0 h) 24 (replicate (length a - 24) 0) ≡ h ++ replicate (length a - 24) 0

@@ -23,11 +23,12 @@ use Rattle.rules.specs.Add.{entrySpan, entryBytes, takenVoid, append, room, add
 use Rattle.rules.specs.Edit as edit
 use Rattle.rules.specs.Demand3.{AcceptedV1, Holds, Live, liveIn, reading, putIn, named}
 use Rattle.laws.proofs.Walk.{or-false}
+use Rattle.laws.proofs.Patch.{length-entryBytes}
 use Rattle.demand3.proofs.Row.{Row}
 use Rattle.demand3.proofs.Live.{live-length, put-in}
 use Rattle.demand3.proofs.Seal.{seal-byte}
 use Rattle.demand3.proofs.Ready.{Ready, ready-of, Settled, settle}
-use Rattle.demand3.proofs.Written.{Written, written-entry, live-entry, length-entryBytes, entryOf}
+use Rattle.demand3.proofs.Written.{Written, written-entry, live-entry, entryOf}
 use Rattle.demand3.proofs.Grow.{Grown, grown, grown-byte}
 use Rattle.demand3.proofs.Outcome.{admitted, passed, tag-range, Free, free}
 use Rattle.demand3.proofs.AddVoid.{filling, add-void-holds}

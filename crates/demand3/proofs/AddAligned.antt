@@ -24,21 +24,11 @@ use Rattle.rules.specs.AddAligned.{misalignment, voidBytes, paddingVoid, aligne
 use Rattle.rules.specs.Edit as edit
 use Rattle.rules.specs.Demand3.{AcceptedV1, Holds, liveIn, reading, named}
 use Rattle.laws.proofs.Walk.{or-false}
+use Rattle.laws.proofs.Patch.{length-entryBytes, length-voidBytes}
 use Rattle.demand3.proofs.Row.{Row, row-append}
 use Rattle.demand3.proofs.Seal.{seal-byte}
 use Rattle.demand3.proofs.Ready.{Ready, ready-of, Settled, settle}
-use Rattle.demand3.proofs.Written.{
-  Written,
-  written-left,
-  written-right,
-  written-void,
-  written-entry,
-  live-entry,
-  live-voidOf,
-  length-entryBytes,
-  length-voidBytes,
-  entryOf,
-}
+use Rattle.demand3.proofs.Written.{Written, written-left, written-right, written-void, written-entry, live-entry, live-voidOf, entryOf}
 use Rattle.demand3.proofs.Change.{header-byte}
 use Rattle.demand3.proofs.Grow.{Grown, grown, grown-byte, Realigned, realigned}
 use Rattle.demand3.proofs.Outcome.{admitted, passed, tag-range, Free, free}

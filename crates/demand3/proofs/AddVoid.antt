@@ -19,22 +19,12 @@ use Rattle.rules.specs.Checksum.{seal}
 use Rattle.rules.specs.Add.{entrySpan, entryBytes, takenVoid, remainder, voidBehind, firstFit}
 use Rattle.rules.specs.Edit as edit
 use Rattle.rules.specs.Demand3.{AcceptedV1, Holds, Live, liveIn, reading, putIn, liveBefore, named}
+use Rattle.laws.proofs.Patch.{length-entryBytes, length-entryHeader}
 use Rattle.demand3.proofs.Row.{Row, row-append}
 use Rattle.demand3.proofs.Live.{first-fit, live-append, live-void, live-length, before-all, before-none, before-append, put-in}
 use Rattle.demand3.proofs.Seal.{seal-byte}
 use Rattle.demand3.proofs.Ready.{Ready, ready-of, Settled, settle}
-use Rattle.demand3.proofs.Written.{
-  Written,
-  written-left,
-  written-right,
-  written-void,
-  written-entry,
-  live-entry,
-  live-voidOf,
-  length-entryBytes,
-  length-entryHeader,
-  entryOf,
-}
+use Rattle.demand3.proofs.Written.{Written, written-left, written-right, written-void, written-entry, live-entry, live-voidOf, entryOf}
 use Rattle.demand3.proofs.Change.{Placed, placed, Replaced, replaced}
 use Rattle.demand3.proofs.Outcome.{Free, free}
 

@@ -22,11 +22,12 @@ use Rattle.rules.specs.AddAligned.{voidBytes}
 use Rattle.rules.specs.Void.{voidAt, void}
 use Rattle.rules.specs.Edit as edit
 use Rattle.rules.specs.Demand3.{AcceptedV1, Holds, liveIn, reading, takeOut, named}
+use Rattle.laws.proofs.Patch.{length-voidBytes}
 use Rattle.demand3.proofs.Row.{Row}
 use Rattle.demand3.proofs.Live.{Occurs, occurs, live-append}
 use Rattle.demand3.proofs.Seal.{seal-byte}
 use Rattle.demand3.proofs.Ready.{Ready, ready-of, Settled, settle}
-use Rattle.demand3.proofs.Written.{Written, written-left, written-void, length-voidBytes, entryOf, live-voidOf}
+use Rattle.demand3.proofs.Written.{Written, written-left, written-void, entryOf, live-voidOf}
 use Rattle.demand3.proofs.Change.{Placed, placed, Replaced, replaced}
 use Rattle.demand3.proofs.Outcome.{admitted, passed, tag-range, Free, free}
 

@@ -17,6 +17,7 @@ use Rattle.rules.specs.Entries.{entryAt, entryHeader, isVoid}
 use Rattle.rules.specs.Add.{entrySpan, entryBytes}
 use Rattle.rules.specs.AddAligned.{voidBytes}
 use Rattle.rules.specs.Demand3.{liveIn}
+use Rattle.laws.proofs.Patch.{length-entryHeader}
 use Rattle.demand3.proofs.Row.{Row}
 use Rattle.demand3.proofs.Live.{part-is, live-live, live-void}
 
@@ -45,11 +46,6 @@ written-field c p k n h w =
 abbrev pub entryOf : ℕ → ℕ → ℕ → Entry
 entryOf p tag n = record { at = p; «tag_id» = tag; «hdr_size» = 8; «data_size» = n }
 
--- an entry header has eight bytes
-pub length-entryHeader : (tag n : ℕ) → length (entryHeader tag n) ≡ 8
-unfolding entryHeader
-length-entryHeader tag n = rw (length-append, length-append, length-leBytes 3 tag, length-leBytes 1 8, length-leBytes 4 n)
-
 -- an entry header that stands there is read there
 pub written-header : (c : List ℕ) (p tag n : ℕ) → tag < 2 ^ 24 → n < 2 ^ 32 → Written c p (entryHeader tag n) → entryOf p tag n ≡ entryAt c p
 unfolding entryHeader entryAt
@@ -65,11 +61,6 @@ written-header c p tag n ht hn w =
 
 -- ---- a void
 
--- a void's bytes
-pub length-voidBytes : (n : ℕ) → length (voidBytes n) ≡ 8 + n
-unfolding voidBytes
-length-voidBytes n = rw (length-append, length-entryHeader, length-replicate)
-
 -- a void whose header stands there makes a row of its own
 pub written-void : (c : List ℕ) (p n : ℕ) → n % 8 ≡ 0 → n < 2 ^ 32 → Written c p (entryHeader 0 n) → Row c p (p + (8 + n)) (entryOf p 0 n ∷ [])
 written-void c p n h8 hn w = (written-header c p 0 n (omega arith) hn w, record { header = refl; eights = λ t. h8 }, omega arith)
@@ -79,11 +70,6 @@ pub live-voidOf : (c : List ℕ) (p n : ℕ) (es : List Entry) → liveIn c (ent
 live-voidOf c p n es = live-void c (entryOf p 0 n) es refl
 
 -- ---- an entry with data
-
--- an entry's bytes, padding included
-pub length-entryBytes : (tag : ℕ) (content : List ℕ) → length (entryBytes tag content) ≡ entrySpan (length content)
-unfolding entryBytes
-length-entryBytes tag content = rw (length-append, length-append, length-entryHeader, length-replicate) (omega arith)
 
 -- its header, its data and its padding stand there
 module _ (c : List ℕ) (p tag : ℕ) (content : List ℕ) (solid : 0 < tag) (low : tag < 2 ^ 24) (short : length content < 2 ^ 32)

@@ -27,8 +27,8 @@ use Rattle.rules.specs.Outcome.{Outcome, refused, done}
 use Rattle.rules.specs.Add.{entryBytes, remainder, voidBehind, firstFit, addInVoid, addAtEnd, room}
 use Rattle.rules.specs.AddAligned.{voidBytes, paddingVoid, alignedBytes, addAlignedAtEnd}
 use Rattle.rules.specs.Void.{voidAt}
-use Rattle.laws.proofs.Walk.{or-false, header-least}
-use Rattle.laws.proofs.Check.{Sound, accepts, factsOf, occurs-inside, Admitted}
+use Rattle.laws.proofs.Walk.{or-false}
+use Rattle.laws.proofs.Check.{Sound, occurs-inside, first-least, Admitted}
 use Rattle.laws.proofs.Patch.{edited, in-place, appended, appended-aligned, length-entryBytes}
 use Rattle.demand3.proofs.Row.{Fine}
 use Rattle.demand3.proofs.Live.{Parts, first-fit}
@@ -63,12 +63,6 @@ stands a base e s p =
     let r : Ready a base (p .before ++ (e ∷ p .behind)) = subst (Ready a base) (p .whole) (ready-of a base (accepted a base s)) in
     let k = placed a base (p .before) e (p .behind) r in
     record { fine = k .fine; low = k .low; high = k .high }
-
--- its entries start behind the header's 24 bytes
-pub first-low : (a : List ℕ) (base : ℕ) → Sound true a base → 24 ≤ firstEntry (headerOf a)
-first-low a base s =
-    let k : 24 ≤ headerOf a .«hdr_size» = header-least (headerOf a .version) 24 (headerOf a .«hdr_size») (s .header) in
-    omega arith
 
 -- the header that was read has the area's sizes
 pub same-sizes : (a : List ℕ) (base : ℕ) (h : Header) → Admitted a base h → (h .«used_size» ≡ headerOf a .«used_size») × (h .«total_size» ≡ headerOf a .«total_size»)
@@ -263,7 +257,7 @@ at-end a content base h padding alignment tag m b v z t f =
     let w : stretchOf p content ≡ x = stretch-at-end h padding alignment tag content in
     let l : length (stretchOf p content) ≡ voidSpan padding + (8 + (length content + (align8 (length content) - length content + headerSpan 0))) = length-stretchOf p content in
     let u : h .«used_size» ≡ headerOf a .«used_size» = ap (λ (y : Header). y .«used_size») (m .header) in
-    let low : 24 ≤ headerOf a .«used_size» = omega (arith, first-low a base s, s .first) in
+    let low : 24 ≤ headerOf a .«used_size» = omega (arith, first-least true a base s, s .first) in
     let fit : headerOf a .«used_size» + (padding + (8 + align8 (length content))) ≤ length a = omega (arith, s .used, s .total) in
     let d = sealed a content base p s b (record {
       low = omega arith;
@@ -302,7 +296,7 @@ add-end a base tag content s b =
     let n : 0 + (8 + align8 (length content)) ≡ align8 (8 + length content) = omega arith in
     let u : headerOf a .«used_size» + 0 + 8 ≡ headerOf a .«used_size» + 8 = omega arith in
     let w : headerOf a .«used_size» + 0 + 8 + align8 (length content) ≡ headerOf a .«used_size» + length (entryBytes tag content) = omega arith in
-    let low : 24 ≤ headerOf a .«used_size» = omega (arith, first-low a base s, s .first) in
+    let low : 24 ≤ headerOf a .«used_size» = omega (arith, first-least true a base s, s .first) in
     let top : headerOf a .«used_size» ≤ length a = omega (arith, s .used, s .total) in
     rw (n, w, u, appended a (entryBytes tag content) b low top)
 
@@ -364,7 +358,7 @@ aligned-end a base tag content exponent s h =
     let le : length (entryBytes tag content) ≡ align8 (8 + length content) = length-entryBytes tag content in
     let new : List ℕ = wholeVoid q ++ entryBytes tag content in
     let ln : length new ≡ q + (8 + align8 (length content)) = rw (length-append, lv, le) (omega arith) in
-    let low : 24 ≤ u = omega (arith, first-low a base s, s .first) in
+    let low : 24 ≤ u = omega (arith, first-least true a base s, s .first) in
     let top : u ≤ length a = omega (arith, s .used, s .total) in
     let sum : u + length new ≡ u + q + 8 + align8 (length content) = omega arith in
     rw (w, ln, lv, appended-aligned a exponent new low top, sum)
@@ -381,7 +375,7 @@ pub occurs-room : (a : List ℕ) (base tag n : ℕ) (e : Entry) → Sound true a
     → (24 ≤ e .at) × (e .at + (8 + align8 (e .«data_size»)) ≤ headerOf a .«used_size»)
 occurs-room a base tag n e s o =
     let i = occurs-inside true a base s tag n e o in
-    (omega (arith, first-low a base s), omega arith)
+    (omega (arith, first-least true a base s), omega arith)
 
 -- the plan of a void comes to the rule's void
 pub void-plan : (a : List ℕ) (base : ℕ) (h : Header) (tag n : ℕ) (e : Entry) → Admitted a base h → Bytes a → occurrence tag n (entriesOf a) ≡ some e

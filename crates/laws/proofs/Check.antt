@@ -33,7 +33,7 @@ use Rattle.rules.specs.Check.{walked, checks, check}
 use Rattle.rules.specs.declared.Refusal.the-variants.{Tag}
 use Rattle.rules.specs.declared.Found.the-variants as found
 use Rattle.rules.specs.Find.{foundAt, afterCheck, find}
-use Rattle.laws.proofs.Walk.{or-false, All, Inside, walk-inside, occurrence-inside}
+use Rattle.laws.proofs.Walk.{header-least, or-false, All, Inside, walk-inside, occurrence-inside}
 
 -- ---- tests
 
@@ -257,6 +257,19 @@ find-within a base tag n offset size h = go (check a base) refl h
         let never : found.Refused Tag ≡ found.At offset size → ⊥ = λ e. (let z : _≡_ {A = ℕ} 0 1 = cc in omega arith) in
         at-entry (sound false a base f p) (occurrence tag n (entriesOf a)) refl (past (refusesTag tag) _ _ _ never k .1)
     go (Refused r) p k = absurd (let z : _≡_ {A = ℕ} 0 1 = cc in omega arith)
+
+-- ---- the sizes of an accepted list
+
+module _ (editing : Bool) (a : List ℕ) (base : ℕ) (s : Sound editing a base) where
+  -- its entries start behind a header's bytes
+  pub first-least : headerSize ≤ firstEntry (headerOf a)
+  first-least =
+      let k : headerSize ≤ headerOf a .«hdr_size» = header-least (headerOf a .version) headerSize (headerOf a .«hdr_size») (s .header) in
+      omega arith
+
+  -- and its used bytes are no fewer
+  pub used-least : headerSize ≤ headerOf a .«used_size»
+  used-least = omega (arith, first-least, s .first)
 
 -- ---- a list that is admitted to an edit, with its header
 

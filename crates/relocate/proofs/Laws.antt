@@ -4,22 +4,22 @@ use Prim.Native.Nat.{ℕ, _+_, _-_, _*_, _%_, _^_, _≤_, _<_}
 use native.Mathlib.Omega.{arith}
 use native.Mathlib.Nat.{zero-add, suc-add, add-assoc, one-mul, mod-lt, div-mul-le-self}
 use mathlib.Core.Bool.{true, false}
-use mathlib.Core.List.{List, [], _∷_, _++_, append-assoc, append-nil}
+use mathlib.Core.List.{List, [], _∷_, _++_, append-assoc}
 use lib.ListN.{length, take, set, replicate, length-append, length-replicate, length-set}
-use lib.Seq.{drop-length, length-take-le, take-append-le, drop-append-le, take-append-add, drop-append-add, set-append-left}
+use lib.Seq.{length-take-le, take-append-le, drop-append-le, take-append-add, drop-append-add, set-append-left}
 use lib.Pow.{pow-pos, pow-mono, shl-exact}
 use lib.Dec.{ltb}
 use borrow.Author.Tests.{ltb-false}
 use Rattle.wire.specs.Bytes.{leBytes, splice, Bytes}
-use Rattle.wire.proofs.Splice.{splice-append, length-splice}
+use Rattle.wire.proofs.Splice.{splice-append, length-splice, splice-all}
 use Rattle.wire.proofs.Field.{length-leBytes}
 use Rattle.rules.specs.Area.{down8, maxAddress, maxLength}
 use Rattle.rules.specs.Header.{headerOf}
 use Rattle.rules.specs.Checksum.{seal}
 use Rattle.rules.specs.Refusals.{refusesTarget}
 use Rattle.rules.specs.Relocate.{inBlock, newBase, moved, targetBytes}
-use Rattle.laws.proofs.Walk.{or-false, header-least}
-use Rattle.laws.proofs.Check.{Sound}
+use Rattle.laws.proofs.Walk.{or-false}
+use Rattle.laws.proofs.Check.{Sound, used-least}
 use Rattle.laws.proofs.Patch.{set-splice, moved-patched}
 use Rattle.plan.specs.Plan.{totalPatch}
 use Rattle.demand3.proofs.NewBase.{newBase-near}
@@ -49,11 +49,6 @@ target-reach base len h =
     (ltb-false _ _ (p .0), ltb-false _ _ (p .1))
 
 -- ---- lists
-
--- as many new bytes as the list has are the list afterwards
-splice-all : (a new : List ℕ) → length new ≡ length a → splice a 0 new ≡ new
-unfolding splice
-splice-all a new e = rw (zero-add, e, drop-length, append-nil)
 
 -- a byte stored in the second of two lists
 set-behind : (p q : List ℕ) (n i v : ℕ) → length p ≡ n → set (p ++ q) (n + i) v ≡ p ++ set q i v
@@ -99,12 +94,6 @@ within p m z n i v at new e h l =
 -- ---- the target's bytes
 
 module _ (a : List ℕ) (base : ℕ) (s : Sound true a base) where
-  -- the used bytes are no fewer than a header's
-  pub used-least : 24 ≤ headerOf a .«used_size»
-  used-least =
-      let k : 24 ≤ headerOf a .«hdr_size» = header-least (headerOf a .version) 24 (headerOf a .«hdr_size») (s .header) in
-      omega arith
-
   module _ (bytes : Bytes a) where
     -- the used bytes with the new total and checksum, as they are written
     moved-written : (room : ℕ) → moved a room ≡ splice (set (take (headerOf a .«used_size») a) 4 (totalPatch (headerOf a) (down8 room))) 12 (leBytes 4 (down8 room))
@@ -112,7 +101,7 @@ module _ (a : List ℕ) (base : ℕ) (s : Sound true a base) where
     moved-written room =
         let u : ℕ = headerOf a .«used_size» in
         let m : List ℕ = take u a in
-        let h : 24 ≤ u = used-least in
+        let h : 24 ≤ u = used-least true a base s in
         let l : u ≤ length a = omega arith in
         let lm : length m ≡ u = length-take-le u a l in
         ap (set (splice m 12 (leBytes 4 (down8 room))) 4) (moved-patched a bytes (s .summed) h l (down8 room))
@@ -124,7 +113,7 @@ module _ (a : List ℕ) (base : ℕ) (s : Sound true a base) where
     target-written t by h =
         let u : ℕ = headerOf a .«used_size» in
         let m : List ℕ = take u a in
-        let k : 24 ≤ u = used-least in
+        let k : 24 ≤ u = used-least true a base s in
         let lm : length m ≡ u = length-take-le u a (omega arith) in
         let ln : length (leBytes 4 (down8 (length t - by))) ≡ 4 = length-leBytes 4 _ in
         rw (moved-written (length t - by), rw lm at (laid t m by (omega arith)))

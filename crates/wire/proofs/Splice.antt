@@ -3,10 +3,10 @@ use mathlib.Core.Path.{_≡_, sym, ap, _∙_, subst}
 use Prim.Native.Nat.{ℕ, _+_, _-_, _≤_, _<_}
 use native.Mathlib.Omega.{arith}
 use native.Mathlib.Numerals.{add-one}
-use native.Mathlib.Nat.{add-assoc, add-zero}
-use mathlib.Core.List.{List, [], _∷_, _++_, append-assoc}
+use native.Mathlib.Nat.{add-assoc, add-zero, zero-add}
+use mathlib.Core.List.{List, [], _∷_, _++_, append-assoc, append-nil}
 use lib.ListN.{length, take, drop, getD, set, length-append, length-drop, take-append-drop, List·getD-append}
-use lib.Seq.{length-take-le, take-append-le, drop-append-le, take-at, drop-at, take-take, drop-drop, take-add, getD-append-add, getD-take, getD-drop, set-split, sets, sets-eq}
+use lib.Seq.{drop-length, length-take-le, take-append-le, drop-append-le, take-at, drop-at, take-take, drop-drop, take-add, getD-append-add, getD-take, getD-drop, set-split, sets, sets-eq}
 use Rattle.wire.specs.Bytes.{splice}
 
 -- what follows the first n of a longer part is the part of what follows them
@@ -152,3 +152,8 @@ splice-comm a at p b q h l =
     ∙ ap (λ (x : List ℕ). take at (take b a) ++ x) (append-assoc p (drop k (take b a)) z)
     ∙ ap (λ (x : List ℕ). take at (take b a) ++ (p ++ x)) (sym (drop-append-le k (take b a) z (omega arith)))
     ∙ ap (λ (x : List ℕ). x ++ (p ++ drop k (splice a b q))) (sym (take-append-le at (take b a) z (omega arith)))
+
+-- as many new bytes as the list has are the list afterwards
+pub splice-all : (a new : List ℕ) → length new ≡ length a → splice a 0 new ≡ new
+unfolding splice
+splice-all a new e = rw (zero-add, e, drop-length, append-nil)

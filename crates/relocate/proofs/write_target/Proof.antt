@@ -5,7 +5,8 @@ use native.Mathlib.Omega.{arith}
 use mathlib.Core.List.{List}
 use lib.ListN.{length, take, length-set}
 use lib.Seq.{length-take-le}
-use Rattle.relocate.proofs.Laws.{used-least, target-written}
+use Rattle.laws.proofs.Check.{used-least}
+use Rattle.relocate.proofs.Laws.{target-written}
 use borrow.Author.Needs.{needs}
 use Rattle.relocate.proofs.write_target.Statement.{statement}
 use Rattle.relocate.proofs.write_target.Tie as tie
@@ -17,7 +18,7 @@ used c =
     length-take-le _ _ (rw (c .pre .0 .header) (omega arith))
 
 least : (c : tie.Start) → 24 ≤ c .args .h .«used_size»
-least c = rw (c .pre .0 .header) (used-least _ _ (c .pre .0 .sound))
+least c = rw (c .pre .0 .header) (used-least _ _ _ (c .pre .0 .sound))
 
 cast-used : tie.Need-cast-used
 cast-used c = search needs
