@@ -1,4 +1,5 @@
-# make run       the demonstration: a bench's boot over the library
+# make run       the demonstration: the paper's first examples, then a bench's boot over the library
+# make show      the entries of a list in a file: FILE=.. BASE=..; without a file, a sample
 # make test      everything that is checked; ends with rt ci, whose last line is 'N passed, 0 failed'
 # make lib       target/staticlib/libtransfer_list.a, for C on x86-64
 # make install   the archive, the header and a pkg-config file under PREFIX (default /usr/local)
@@ -19,10 +20,9 @@ CARGO = cargo build --quiet --release --offline
 
 .PHONY: run show test lib install compare bench fmt-check header-check symbols-check oracle-test size
 
-run: target/demo/boot target/demo/show
+run: target/demo/paper target/demo/boot
+	target/demo/paper
 	target/demo/boot
-	@echo
-	target/demo/show
 
 show: target/demo/show
 	target/demo/show $(FILE) $(BASE)
@@ -43,7 +43,7 @@ install: $(LIB)
 	install -d $(DESTDIR)$(PREFIX)/lib/pkgconfig $(DESTDIR)$(PREFIX)/include
 	install -m 644 $(LIB) $(DESTDIR)$(PREFIX)/lib/
 	install -m 644 include/transfer_list.h $(DESTDIR)$(PREFIX)/include/
-	printf 'prefix=%s\nName: transfer_list\nDescription: transfer lists of the Firmware Handoff specification, proved\nVersion: 1\nCflags: -I$${prefix}/include\nLibs: -L$${prefix}/lib -ltransfer_list\n' $(PREFIX) > $(DESTDIR)$(PREFIX)/lib/pkgconfig/transfer_list.pc
+	@printf 'prefix=%s\nName: transfer_list\nDescription: transfer lists of the Firmware Handoff specification, proved\nVersion: 1\nCflags: -I$${prefix}/include\nLibs: -L$${prefix}/lib -ltransfer_list\n' $(PREFIX) > $(DESTDIR)$(PREFIX)/lib/pkgconfig/transfer_list.pc
 
 compare: $(LIB)
 	$(CARGO) --manifest-path oracle/Cargo.toml --target-dir target/oracle

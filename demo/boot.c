@@ -69,7 +69,7 @@ static void line(const stage *s, const char *what, int quiet)
 {
     tl_checked c = tl_check(s->area + s->shift, length_of(s), base_of(s));
     if (!quiet)
-        printf("  %-10s at 0x%05llx: %-44s used %3u, %u live, %u void, checksum %02x\n", s->name, (unsigned long long)base_of(s), what,
+        printf("  %-10s at 0x%05llx: %-48s used %3u, %u live, %u void, checksum %02x\n", s->name, (unsigned long long)base_of(s), what,
                (unsigned)c.used, (unsigned)c.live, (unsigned)c.voids, s->area[s->shift + 4]);
 }
 
