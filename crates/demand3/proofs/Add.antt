@@ -8,6 +8,7 @@ use mathlib.Core.Option.{Option, none, some}
 use lib.ListN.{length, getD}
 use lib.Dec.{leb, ltb}
 use borrow.Author.Tests.{ltb-false}
+use Rattle.rules.specs.Area.{maxLength}
 use Rattle.wire.specs.Bytes.{field, splice}
 use Rattle.wire.proofs.Splice.{length-splice, getD-splice-in}
 use Rattle.rules.specs.declared.Entry.{Entry}
@@ -55,7 +56,7 @@ grown-entry a base es tag content solid low r fits =
     let d : List ℕ = splice a (field a 8 4) (entryBytes tag content) in
     let le : length new ≡ entrySpan n = length-entryBytes tag content in
     let top : field a 12 4 ≤ length a = r .total in
-    let short : length a ≤ 65536 = r .short in
+    let short : length a ≤ maxLength = r .short in
     let ld : length d ≡ length a = length-splice a u new (omega arith) in
     let w : Written d u new = getD-splice-in a u new (omega arith) in
     let h : Row d u (u + entrySpan n) (entryOf u tag n ∷ []) = written-entry d u tag content solid low (omega arith) w in

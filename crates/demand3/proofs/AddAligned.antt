@@ -8,6 +8,7 @@ use mathlib.Core.List.{List, [], _∷_, _++_}
 use lib.ListN.{length, getD, replicate, length-append}
 use lib.Dec.{leb, ltb, eqb}
 use borrow.Author.Tests.{ltb-false}
+use Rattle.rules.specs.Area.{maxLength, maxAlignment}
 use Rattle.wire.specs.Bytes.{field, splice}
 use Rattle.wire.proofs.Splice.{length-splice, getD-splice-in}
 use Rattle.rules.specs.declared.Entry.{Entry}
@@ -61,7 +62,7 @@ module _ (a : List ℕ) (base : ℕ) (es : List Entry) (tag : ℕ) (content : Li
       let le : length (entryBytes tag content) ≡ entrySpan n = length-entryBytes tag content in
       let ln : length new ≡ 8 + m + entrySpan n = rw (length-append (voidBytes m) (entryBytes tag content), lv, le) in
       let top : field a 12 4 ≤ length a = r .total in
-      let short : length a ≤ 65536 = r .short in
+      let short : length a ≤ maxLength = r .short in
       let ld : length d ≡ length a = length-splice a u new (omega arith) in
       let w : Written d u new = getD-splice-in a u new (omega arith) in
       let wv : Written d u (entryHeader 0 m) = written-left d u (entryHeader 0 m) (replicate m 0) (written-left d u (voidBytes m) (entryBytes tag content) w) in
@@ -105,17 +106,17 @@ module _ (a : List ℕ) (base : ℕ) (es : List Entry) (tag : ℕ) (content : Li
               omega arith
 
 -- an alignment that is not refused
-align-range : (x : ℕ) → refusesAlign x ≡ false → (3 ≤ x) × (x ≤ 12)
+pub align-range : (x : ℕ) → refusesAlign x ≡ false → (3 ≤ x) × (x ≤ maxAlignment)
 align-range x h =
-    let p = or-false (ltb x 3) (ltb 12 x) h in
-    (ltb-false x 3 (p .0), ltb-false 12 x (p .1))
+    let p = or-false (ltb x 3) (ltb maxAlignment x) h in
+    (ltb-false x 3 (p .0), ltb-false maxAlignment x (p .1))
 
 -- the larger of two alignments
-larger : (x y : ℕ) → x ≤ 12 → 3 ≤ y → y ≤ 12 → (3 ≤ max x y) × (max x y ≤ 12)
+larger : (x y : ℕ) → x ≤ maxAlignment → 3 ≤ y → y ≤ maxAlignment → (3 ≤ max x y) × (max x y ≤ maxAlignment)
 larger x y hx ly hy = (omega arith, omega arith)
 
 -- the padding void, if any, and the entry at used_size
-module _ (a : List ℕ) (base tag value : ℕ) (content : List ℕ) (exponent : ℕ) (solid : 0 < tag) (low : tag < 2 ^ 24) (least : 3 ≤ exponent) (most : exponent ≤ 12)
+module _ (a : List ℕ) (base tag value : ℕ) (content : List ℕ) (exponent : ℕ) (solid : 0 < tag) (low : tag < 2 ^ 24) (least : 3 ≤ exponent) (most : exponent ≤ maxAlignment)
     (accepted : AcceptedV1 a base) (enough : ltb (room a) (length (alignedBytes a base tag content exponent)) ≡ false) where
   -- the bytes that the add does not name stay
   aligned-byte : Ready a base (entriesOf a) → (new : List ℕ) → field a 8 4 + length new ≤ field a 12 4 → (x i : ℕ) → length (append a new) ≡ length a

@@ -12,7 +12,7 @@ use borrow.Author.Tests.{leb-true, leb-false}
 use Rattle.wire.specs.Bytes.{field, splice}
 use Rattle.wire.proofs.Splice.{getD-splice-before, getD-splice-in, getD-splice-behind}
 use Rattle.rules.specs.declared.Entry.{Entry}
-use Rattle.rules.specs.Area.{align8}
+use Rattle.rules.specs.Area.{align8, maxLength}
 use Rattle.rules.specs.Header.{headerOf}
 use Rattle.rules.specs.Entries.{entryHeader, isVoid, span, entriesOf, liveCount}
 use Rattle.rules.specs.Checksum.{seal}
@@ -60,7 +60,7 @@ module _ (a : List ℕ) (base : ℕ) (xs : List Entry) (e : Entry) (ys : List En
       let lh : length (entryHeader 0 m) ≡ 8 = length-entryHeader 0 m in
       let ln : length new ≡ entrySpan n + 8 = rw (length-append, le, lh) in
       let high : e .at + span e ≤ length a = omega (arith, p .high, r .used, r .total) in
-      let short : length a ≤ 65536 = r .short in
+      let short : length a ≤ maxLength = r .short in
       let w : Written c (e .at) new = getD-splice-in a (e .at) new (omega arith) in
       let we : Written c (e .at) (entryBytes tag content) = written-left c (e .at) (entryBytes tag content) (entryHeader 0 m) w in
       let wv : Written c q (entryHeader 0 m) = written-right c (e .at) (entryBytes tag content) (entryHeader 0 m) (entrySpan n) le w in
@@ -91,7 +91,7 @@ module _ (a : List ℕ) (base : ℕ) (xs : List Entry) (e : Entry) (ys : List En
       let le : length (entryBytes tag content) ≡ entrySpan n = length-entryBytes tag content in
       let ln : length new ≡ entrySpan n + 0 = rw (length-append, le) in
       let high : e .at + span e ≤ length a = omega (arith, p .high, r .used, r .total) in
-      let short : length a ≤ 65536 = r .short in
+      let short : length a ≤ maxLength = r .short in
       let w : Written c (e .at) new = getD-splice-in a (e .at) new (omega arith) in
       let we : Written c (e .at) (entryBytes tag content) = written-left c (e .at) (entryBytes tag content) [] w in
       let x : Entry = entryOf (e .at) tag n in

@@ -5,6 +5,7 @@ use Prim.Native.Nat.{ℕ, _+_, _%_, _≤_, _<_}
 use native.Mathlib.Omega.{arith}
 use mathlib.Core.List.{List, _++_}
 use lib.ListN.{length, getD}
+use Rattle.rules.specs.Area.{maxLength, maxAlignment}
 use Rattle.wire.specs.Bytes.{field, leBytes, splice}
 use Rattle.wire.proofs.Splice.{length-splice, getD-splice-before, getD-splice-behind}
 use Rattle.wire.proofs.Field.{field-splice-same, field-splice-other}
@@ -39,7 +40,7 @@ module _ (a : List ℕ) (base : ℕ) (es : List Entry) (r : Ready a base es) (ne
       let c : List ℕ = splice d 8 (leBytes 4 n) in
       let top : field a 12 4 ≤ length a = r .total in
       let low : 24 ≤ field a 8 4 = r .first in
-      let short : length a ≤ 65536 = r .short in
+      let short : length a ≤ maxLength = r .short in
       let ld : length d ≡ length a = length-splice a u new (omega arith) in
       let lc : length c ≡ length a = header-length d 8 4 n (omega arith) ∙ ld in
       let g : (bt k : ℕ) → bt + k ≤ 24 → field d bt k ≡ field a bt k = λ bt k b. field-splice-other a u new bt k (omega arith) (inl (omega arith)) in
@@ -95,7 +96,7 @@ pub record Realigned (c : List ℕ) (base : ℕ) (es : List Entry) (d : List ℕ
   pub size : length d ≡ length c
 
 -- any alignment from 3 to 12
-pub realigned : (c : List ℕ) (base : ℕ) (es : List Entry) (x : ℕ) → 3 ≤ x → x ≤ 12 → Ready c base es → Realigned c base es (withAlignment x c)
+pub realigned : (c : List ℕ) (base : ℕ) (es : List Entry) (x : ℕ) → 3 ≤ x → x ≤ maxAlignment → Ready c base es → Realigned c base es (withAlignment x c)
 realigned c base es x hl hh r =
     let d : List ℕ = splice c 7 (leBytes 1 x) in
     let low : 24 ≤ field c 8 4 = r .first in

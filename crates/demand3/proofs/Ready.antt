@@ -9,6 +9,7 @@ use mathlib.Core.List.{List}
 use lib.ListN.{length, getD}
 use lib.Dec.{eqb}
 use borrow.Author.Tests.{eqb-true}
+use Rattle.rules.specs.Area.{maxLength, maxAlignment, maxAddress}
 use Rattle.wire.specs.Bytes.{field}
 use Rattle.rules.specs.declared.Entry.{Entry}
 use Rattle.rules.specs.declared.Facts.{Facts}
@@ -25,13 +26,13 @@ use Rattle.demand3.proofs.Seal.{seal-length, seal-byte, seal-field, sea
 -- the checks 1 to 6 and 8 of a version 1 list, in numbers
 pub record Ready (c : List ℕ) (base : ℕ) (es : List Entry) : Type 0 where
   pub base8 : base % 8 ≡ 0
-  pub reach : base + length c ≤ 2 ^ 48
-  pub short : length c ≤ 65536
+  pub reach : base + length c ≤ maxAddress
+  pub short : length c ≤ maxLength
   pub signed : field c 0 4 ≡ 0x4a0fb10b
   pub version : field c 5 1 ≡ 1
   pub header : field c 6 1 ≡ 24
   pub least : 3 ≤ field c 7 1
-  pub most : field c 7 1 ≤ 12
+  pub most : field c 7 1 ≤ maxAlignment
   pub used8 : field c 8 4 % 8 ≡ 0
   pub total8 : field c 12 4 % 8 ≡ 0
   pub first : 24 ≤ field c 8 4

@@ -61,8 +61,8 @@ record Carried (a : List ℕ) (base : ℕ) (es : List Entry) (room newBase : ℕ
   size : length (carry a room) ≡ field a 8 4
 
 -- it is ready at every base that its length allows
-carried : (a : List ℕ) (base : ℕ) (es : List Entry) (room newBase : ℕ) → Ready a base es → field a 8 4 ≤ room → room ≤ 65536 → newBase % 8 ≡ 0
-    → newBase + room ≤ 2 ^ 48 → Carried a base es room newBase
+carried : (a : List ℕ) (base : ℕ) (es : List Entry) (room newBase : ℕ) → Ready a base es → field a 8 4 ≤ room → room ≤ maxLength → newBase % 8 ≡ 0
+    → newBase + room ≤ maxAddress → Carried a base es room newBase
 carried a base es room newBase r fits short new8 reach =
     let u : ℕ = field a 8 4 in
     let n : ℕ = down8 room in
@@ -125,8 +125,8 @@ unnamed i h =
 
 -- the list moved by some bytes into the target
 module _ (a : List ℕ) (base : ℕ) (target : List ℕ) (targetBase by : ℕ) (accepted : AcceptedV1 a base)
-    (same : (targetBase + by) % 2 ^ headerOf a .alignment ≡ base % 2 ^ headerOf a .alignment) (reach : targetBase + length target ≤ 2 ^ 48)
-    (short : length target ≤ 65536) (fits : by + headerOf a .«used_size» ≤ length target) where
+    (same : (targetBase + by) % 2 ^ headerOf a .alignment ≡ base % 2 ^ headerOf a .alignment) (reach : targetBase + length target ≤ maxAddress)
+    (short : length target ≤ maxLength) (fits : by + headerOf a .«used_size» ≤ length target) where
   -- the target from the new base to its end
   area-is : Carried a base (entriesOf a) (length target - by) (targetBase + by) → drop by (targetBytes a by (length target)) ≡ seal (unsealed a (length target - by))
   unfolding targetBytes moved headerOf

@@ -11,7 +11,7 @@ use Rattle.wire.specs.Bytes.{splice}
 use Rattle.wire.proofs.Splice.{getD-splice-before, getD-splice-in, getD-splice-behind}
 use Rattle.rules.specs.declared.Entry.{Entry}
 use Rattle.rules.specs.declared.Refusal.the-variants.{Tag}
-use Rattle.rules.specs.Area.{align8}
+use Rattle.rules.specs.Area.{align8, maxLength}
 use Rattle.rules.specs.Header.{headerOf}
 use Rattle.rules.specs.Entries.{entryHeader, span, entriesOf, occurrence}
 use Rattle.rules.specs.Checksum.{seal}
@@ -43,7 +43,7 @@ void-over a base xs e ys r =
     let l : length new ≡ 8 + m = length-voidBytes m in
     let s : span e ≡ 8 + m = omega (arith, p .fine .header) in
     let high : e .at + span e ≤ length a = omega (arith, p .high, r .used, r .total) in
-    let short : length a ≤ 65536 = r .short in
+    let short : length a ≤ maxLength = r .short in
     let w : Written c (e .at) new = getD-splice-in a (e .at) new (omega arith) in
     let h : Row c (e .at) (e .at + (8 + m)) (entryOf (e .at) 0 m ∷ []) =
     written-void c (e .at) m (omega arith) (omega arith) (written-left c (e .at) (entryHeader 0 m) (replicate m 0) w) in

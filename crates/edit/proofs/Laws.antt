@@ -16,7 +16,7 @@ use Rattle.rules.specs.declared.Header.{Header}
 use Rattle.rules.specs.declared.Entry.{Entry}
 use Rattle.rules.specs.declared.Refusal.{Refusal}
 use Rattle.rules.specs.declared.Refusal.the-variants.{Room}
-use Rattle.rules.specs.Area.{align8}
+use Rattle.rules.specs.Area.{align8, maxLength, maxAlignment}
 use Rattle.rules.specs.Header.{headerOf}
 use Rattle.rules.specs.Entries.{span, walkFrom, firstEntry, walk, seen, entriesOf, occurrence}
 use Rattle.rules.specs.Checksum.{seal}
@@ -106,12 +106,6 @@ module _ (f : List Entry → Option Entry) (a : List ℕ) (h : Header) (first : 
 pub add-tag : (tag : ℕ) → refusesTagAdd tag ≡ false → tag < 2 ^ 24
 add-tag tag h = tag-range tag (or-false (refusesTag tag) _ h .0) .1
 
--- an exponent that an aligned add may have
-pub align-range : (x : ℕ) → refusesAlign x ≡ false → (3 ≤ x) × (x ≤ 12)
-align-range x h =
-    let p = or-false (ltb x 3) (ltb 12 x) h in
-    (ltb-false x 3 (p .0), ltb-false 12 x (p .1))
-
 -- ---- decisions
 
 -- what the checksum of a plan asks for
@@ -162,7 +156,7 @@ sealed a content base p s b k =
     let q = k .padding in
     let n = k .new in
     let top : headerOf a .«used_size» ≤ length a = omega (arith, s .used, s .total) in
-    let near : length a ≤ 65536 = s .short in
+    let near : length a ≤ maxLength = s .short in
     record {
       comes = ap (done (p .value)) (after-sealed p a content b (s .summed) (k .low) (k .old) n top (omega arith) (k .small));
       writable = record { header = k .low; inside = i; padding = q; tag = k .tag; small = omega arith };
@@ -236,7 +230,7 @@ void-asks a base h e tag n m f t =
     let r = void-room a base n e s f in
     let u = same-sizes a base h m in
     let top : headerOf a .«used_size» ≤ length a = omega (arith, s .used, s .total) in
-    let near : length a ≤ 65536 = s .short in
+    let near : length a ≤ maxLength = s .short in
     (m .header, omega arith, omega arith, record { padding = omega arith; zeros = omega arith; behind = omega arith; tag = t })
 
 -- ---- an entry at used_size
@@ -280,7 +274,7 @@ end-asks a base h padding alignment tag n m t f =
     let u = same-sizes a base h m in
     let top : headerOf a .«total_size» ≤ length a = s .total in
     let low : headerOf a .«used_size» ≤ headerOf a .«total_size» = s .used in
-    let near : length a ≤ 65536 = s .short in
+    let near : length a ≤ maxLength = s .short in
     (m .header, omega arith, omega arith, record { padding = omega arith; zeros = omega arith; behind = omega arith; tag = t })
 
 -- without room the add is refused
@@ -336,14 +330,14 @@ module _ (base used exponent : ℕ) (h : 3 ≤ exponent) (b : base % 8 ≡ 0) (u
       go true t = rw t
       go false t = rw (t, le-ltb _ 8 (padding-least t))
 
--- the padding is no more than the alignment, which is at most 4096
-pub padding-small : (base used exponent : ℕ) → exponent ≤ 12 → paddingFor base used exponent ≤ 4096
+-- the padding is no more than the alignment, which is at most the largest
+pub padding-small : (base used exponent : ℕ) → exponent ≤ maxAlignment → paddingFor base used exponent ≤ 2 ^ maxAlignment
 unfolding paddingFor
 padding-small base used exponent h = go (eqb ((base + used + 8) % 2 ^ exponent) 0) refl
   where
-    go : (t : Bool) → eqb ((base + used + 8) % 2 ^ exponent) 0 ≡ t → paddingFor base used exponent ≤ 4096
+    go : (t : Bool) → eqb ((base + used + 8) % 2 ^ exponent) 0 ≡ t → paddingFor base used exponent ≤ 2 ^ maxAlignment
     go true t = rw t (omega arith)
-    go false t = let m : 2 ^ exponent ≤ 2 ^ 12 = pow-mono h in rw t (omega arith)
+    go false t = let m : 2 ^ exponent ≤ 2 ^ maxAlignment = pow-mono h in rw t (omega arith)
 
 -- the aligned add at used_size has that padding and raises the alignment
 pub aligned-end : (a : List ℕ) (base tag : ℕ) (content : List ℕ) (exponent : ℕ) → Sound true a base → 3 ≤ exponent
@@ -412,7 +406,7 @@ occurs-asks a base h tag n e m f =
     let r = occurs-room a base tag n e s f in
     let u = same-sizes a base h m in
     let top : headerOf a .«used_size» ≤ length a = omega (arith, s .used, s .total) in
-    let near : length a ≤ 65536 = s .short in
+    let near : length a ≤ maxLength = s .short in
     (m .header, omega arith, omega arith, record { padding = omega arith; zeros = omega arith; behind = omega arith; tag = omega arith })
 
 -- ---- the table of data lengths

@@ -13,7 +13,7 @@ use borrow.Author.Tests.{ltb-false}
 use Rattle.wire.specs.Bytes.{leBytes, splice, Bytes}
 use Rattle.wire.proofs.Splice.{splice-append, length-splice, splice-all}
 use Rattle.wire.proofs.Field.{length-leBytes}
-use Rattle.rules.specs.Area.{down8, maxAddress, maxLength}
+use Rattle.rules.specs.Area.{down8, maxAddress, maxLength, maxAlignment}
 use Rattle.rules.specs.Header.{headerOf}
 use Rattle.rules.specs.Checksum.{seal}
 use Rattle.rules.specs.Refusals.{refusesTarget}
@@ -35,9 +35,9 @@ pub block-near : (m base target : ℕ) → 0 < m → inBlock m base target < tar
 block-near m base target h = omega (arith, mod-lt base h, div-mul-le-self target m)
 
 -- the shift is below the largest alignment
-pub shift-near : (k base target : ℕ) → k ≤ 12 → newBase (2 ^ k) base target - target < 4096
+pub shift-near : (k base target : ℕ) → k ≤ maxAlignment → newBase (2 ^ k) base target - target < 2 ^ maxAlignment
 shift-near k base target h =
-    let p : 2 ^ k ≤ 2 ^ 12 = pow-mono h in
+    let p : 2 ^ k ≤ 2 ^ maxAlignment = pow-mono h in
     omega (arith, newBase-near (2 ^ k) base target (pow-pos k))
 
 -- ---- the target

@@ -7,7 +7,7 @@ use lib.ListN.{length, replicate, length-set}
 use borrow.Author.Tests.{le-leb, lt-leb, not-false}
 use Rattle.wire.specs.Bytes.{splice}
 use Rattle.rules.specs.declared.Header.{Header}
-use Rattle.rules.specs.Area.{down8}
+use Rattle.rules.specs.Area.{down8, maxLength}
 use Rattle.rules.specs.Header.{headerBytes}
 use Rattle.rules.specs.Outcome.{done}
 use Rattle.rules.specs.Create.{freshList, create as createRule}
@@ -38,7 +38,7 @@ mul-total c = search needs
 cast-total : tie.Need-cast-total
 cast-total c =
     let a = c .before .before .before .before .args in
-    let h : length (a .area .now) ≤ 65536 = usable-short (a .base) _ (sym (c .before .before .usable .ensures) ∙ not-false _ (c .before .if1 .left)) in
+    let h : length (a .area .now) ≤ maxLength = usable-short (a .base) _ (sym (c .before .before .usable .ensures) ∙ not-false _ (c .before .if1 .left)) in
     omega arith
 
 fresh-requires : tie.Need-fresh-requires

@@ -1,13 +1,13 @@
 -- A refused list, a refused target and too little room are the answer; otherwise the target is written as the rule has it.
 use mathlib.Core.Path.{_≡_, sym, ap, _∙_}
-use Prim.Native.Nat.{_+_, _-_, _≤_, _<_}
+use Prim.Native.Nat.{_+_, _-_, _≤_, _<_, _^_}
 use native.Mathlib.Omega.{arith}
 use mathlib.Core.Bool.{true}
 use lib.ListN.{length}
 use lib.Pow.{pow-pos}
 use borrow.Author.Tests.{lt-ltb, le-ltb}
 use Rattle.rules.specs.declared.Header.{Header}
-use Rattle.rules.specs.Area.{maxAddress, maxLength}
+use Rattle.rules.specs.Area.{maxAddress, maxLength, maxAlignment}
 use Rattle.rules.specs.Relocate.{shift, moveTo, relocate as relocateRule}
 use Rattle.laws.proofs.Check.{Sound, sound}
 use Rattle.demand3.proofs.NewBase.{newBase-least}
@@ -68,7 +68,7 @@ new-base-requires c κs =
 least : (c : tie.After-new-base) → c .before .before .before .before .before .before .before .before .before .args .target-base ≤ c .new-base .result
 least c = rw (c .new-base .ensures) (newBase-least _ _ _ (pow-pos _))
 
-near : (c : tie.After-new-base) → c .new-base .result - c .before .before .before .before .before .before .before .before .before .args .target-base < 4096
+near : (c : tie.After-new-base) → c .new-base .result - c .before .before .before .before .before .before .before .before .before .args .target-base < 2 ^ maxAlignment
 near c =
     let s = admitted (c .before .before .before .before) in
     let e = ap (λ (h : Header). h .alignment) (c .before .read-header .ensures) in

@@ -1,11 +1,13 @@
 -- What the admission or a test refuses is refused; behind them the outcome is that of an add at used_size behind its padding.
 use mathlib.Core.Path.{_≡_, sym, _∙_}
-use Prim.Native.Nat.{_%_, _≤_}
+use Prim.Native.Nat.{_%_, _≤_, _^_}
 use native.Mathlib.Omega.{arith}
 use mathlib.Core.Bool.{true}
+use Rattle.rules.specs.Area.{maxAlignment}
 use Rattle.rules.specs.AddAligned.{addAligned}
 use Rattle.laws.proofs.Check.{Sound, sound}
-use Rattle.edit.proofs.Laws.{add-tag, align-range, decides-refused, padding-span, padding-small, aligned-end}
+use Rattle.demand3.proofs.AddAligned.{align-range}
+use Rattle.edit.proofs.Laws.{add-tag, decides-refused, padding-span, padding-small, aligned-end}
 use borrow.Author.Needs.{needs}
 use Rattle.edit.proofs.decide.decide_add_aligned.Statement.{statement}
 use Rattle.edit.proofs.decide.decide_add_aligned.Tie as tie
@@ -83,8 +85,8 @@ admitted c =
     let k = c .before .before .before .before .before .before in
     sound _ _ _ _ (sym (k .before .before .admit .ensures) ∙ k .enum-told .given .1)
 
--- the exponent is from 3 to 12
-exponent-range : (c : tie.Else3) → (3 ≤ c .before .before .before .before .before .before .before .before .before .before .before .args .exponent) × (c .before .before .before .before .before .before .before .before .before .before .before .args .exponent ≤ 12)
+-- the exponent is in its range
+exponent-range : (c : tie.Else3) → (3 ≤ c .before .before .before .before .before .before .before .before .before .before .before .args .exponent) × (c .before .before .before .before .before .before .before .before .before .before .before .args .exponent ≤ maxAlignment)
 exponent-range c = align-range _ (sym (c .before .refuses-align .ensures) ∙ c .if3 .left)
 
 read-header-requires : tie.Need-read-header-requires
@@ -108,7 +110,7 @@ decide-end-requires c κs =
     let h = c .before .before .read-header .ensures in
     let p = c .before .padding-for .ensures in
     let u : c .before .before .read-header .result .«used_size» % 8 ≡ 0 = rw h (s .used8) in
-    let l : c .before .padding-for .result ≤ 4096 = rw p (padding-small _ _ _ (e .1)) in (
+    let l : c .before .padding-for .result ≤ 2 ^ maxAlignment = rw p (padding-small _ _ _ (e .1)) in (
       record { header = h; sound = s },
       rw p (padding-span _ _ _ (e .0) (s .base8) u),
       omega arith,
