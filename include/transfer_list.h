@@ -106,7 +106,7 @@ tl_found tl_find(const uint8_t *area, size_t len, uint64_t base, uint32_t tag, u
  */
 static inline const uint8_t *tl_data(const uint8_t *area, tl_found found)
 {
-    return area + found.offset;
+    return found.offset == 0 ? area : area + found.offset;
 }
 
 /**
