@@ -7,7 +7,6 @@ use Rattle.rules.specs.declared.Header.{Header}
 use Rattle.rules.specs.declared.Facts.{Facts}
 use Rattle.rules.specs.declared.Checked.{Checked}
 use Rattle.rules.specs.declared.Checked.the-variants.{Accepted, Refused}
-use Rattle.rules.specs.declared.Refusal.{Refusal}
 use Rattle.rules.specs.declared.Refusal.the-variants.{Area, Short, Signature, Version, Readonly, Sizes, Checksum, Entry}
 use Rattle.rules.specs.declared.CheckAnswer.{CheckAnswer}
 use Rattle.rules.specs.Header.{headerOf}
@@ -56,11 +55,6 @@ check a base = checks false a base
 -- the admission of a list to an edit
 abbrev pub admit : List ℕ → ℕ → Checked
 admit a base = checks true a base
-
--- why a check refused; of an accepted one it is not asked
-abbrev pub refusalOf : Checked → Refusal
-refusalOf (Accepted f) = Area
-refusalOf (Refused r) = r
 
 -- the answer in numbers: "A refusal answers its number with every other number in the answer 0"
 abbrev pub checkAnswer : Checked → CheckAnswer

@@ -16,3 +16,5 @@ pub mod Void
 pub mod Relocate
 pub mod Edit
 pub mod Demand3
+-- Not a part of the paper.
+pub mod Methods

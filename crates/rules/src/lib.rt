@@ -2,7 +2,8 @@
 ghost use mathlib.Core.Path.{_≡_};
 ghost use Rattle.rules.specs.Header.{freshHeader};
 ghost use Rattle.rules.specs.Refusals.{numberOf};
-ghost use Rattle.rules.specs.Check.{refusalOf, checkAnswer};
+ghost use Rattle.rules.specs.Check.{checkAnswer};
+ghost use Rattle.rules.specs.Methods.{refusalOf};
 ghost use Rattle.rules.specs.Find.{findAnswer};
 ghost use Rattle.rules.specs.Outcome.{doneAnswer};
 
