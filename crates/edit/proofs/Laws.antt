@@ -4,7 +4,7 @@ use Prim.Native.Nat.{ℕ, zero, suc, _+_, _-_, _%_, _^_, _≤_, _<_, max}
 use native.Mathlib.Omega.{arith}
 use native.Mathlib.Nat.{mod-lt}
 use native.Mathlib.Numerals.{add-one}
-use mathlib.Core.Bool.{Bool, true, false, not, _||_, cond}
+use mathlib.Core.Bool.{Bool, true, false, not, _||_}
 use mathlib.Core.List.{List, [], _∷_, _++_, append-assoc, append-nil}
 use mathlib.Core.Option.{Option, none, some}
 use lib.ListN.{length, drop, getD, length-append}
@@ -14,24 +14,21 @@ use borrow.Author.Tests.{ltb-true, ltb-false, le-leb, lt-leb, lt-ltb, le-ltb, eq
 use Rattle.wire.specs.Bytes.{Bytes}
 use Rattle.rules.specs.declared.Header.{Header}
 use Rattle.rules.specs.declared.Entry.{Entry}
-use Rattle.rules.specs.declared.Checked.{Checked}
-use Rattle.rules.specs.declared.Checked.the-variants as checked
 use Rattle.rules.specs.declared.Refusal.{Refusal}
-use Rattle.rules.specs.declared.Refusal.the-variants.{Tag, Shape, Align, Room}
+use Rattle.rules.specs.declared.Refusal.the-variants.{Room}
 use Rattle.rules.specs.Area.{align8, maxLength, maxAlignment}
 use Rattle.rules.specs.Header.{headerOf}
 use Rattle.rules.specs.Entries.{span, walkFrom, firstEntry, walk, seen, entriesOf, occurrence}
 use Rattle.rules.specs.Checksum.{seal}
 use Rattle.rules.specs.Refusals.{refusesTag, refusesTagAdd, refusesAlign}
 use Rattle.rules.specs.Tags as rule
-use Rattle.rules.specs.Tags.{Lengths, any, exactly, allows, allowedIn, refusesShape}
-use Rattle.rules.specs.Check.{admit}
-use Rattle.rules.specs.Outcome.{Outcome, refused, done, afterAdmission}
-use Rattle.rules.specs.Add.{entryBytes, remainder, voidBehind, firstFit, takenVoid, addInVoid, addAtEnd, addAt, add, room}
-use Rattle.rules.specs.AddAligned.{voidBytes, paddingVoid, alignedBytes, addAlignedAtEnd, addAligned}
+use Rattle.rules.specs.Tags.{Lengths, any, exactly, allows, allowedIn}
+use Rattle.rules.specs.Outcome.{Outcome, refused, done}
+use Rattle.rules.specs.Add.{entryBytes, remainder, voidBehind, firstFit, addInVoid, addAtEnd, room}
+use Rattle.rules.specs.AddAligned.{voidBytes, paddingVoid, alignedBytes, addAlignedAtEnd}
 use Rattle.rules.specs.Void.{voidAt}
 use Rattle.laws.proofs.Walk.{or-false}
-use Rattle.laws.proofs.Check.{past, Sound, sound, occurs-inside, first-least, Admitted}
+use Rattle.laws.proofs.Check.{Sound, occurs-inside, first-least, Admitted}
 use Rattle.laws.proofs.Patch.{edited, in-place, appended, appended-aligned, length-entryBytes}
 use Rattle.demand3.proofs.Row.{Fine}
 use Rattle.demand3.proofs.Live.{Parts, first-fit}
@@ -42,8 +39,6 @@ use Rattle.demand3.proofs.Outcome.{tag-range}
 use Rattle.demand3.proofs.Power.{power-positive, power-eights, eights-mod}
 use Rattle.walk.specs.declared.cursor.Sought.{Sought}
 use Rattle.walk.specs.declared.cursor.Sought.the-variants.{At, Nothing}
-use Rattle.walk.specs.declared.header.Headed.{Headed}
-use Rattle.walk.specs.declared.header.Headed.the-variants as headed
 use Rattle.walk.specs.Cursor.{sought, Unbroken}
 use Rattle.plan.specs.declared.Plan.{Plan}
 use Rattle.plan.specs.declared.Planned.{Planned}
@@ -51,7 +46,7 @@ use Rattle.plan.specs.declared.Planned.the-variants.{Go, Refused}
 use Rattle.plan.specs.Plan.{wholeVoid, voidHeader, voidSpan, headerSpan, stretchOf, after, withChecksum, outcomeOf, Moderate}
 use Rattle.plan.proofs.Laws.{length-wholeVoid, length-stretchOf, no-header, some-header, after-sealed}
 use Rattle.edit.specs.declared.tags.TagRow.{TagRow}
-use Rattle.edit.specs.Decide.{planInVoid, planAtEnd, planVoid, paddingFor, endOutcome, ifAdmitted, addAdmission, Decides}
+use Rattle.edit.specs.Decide.{planInVoid, planAtEnd, planVoid, paddingFor, endOutcome, Decides}
 
 -- ---- a list that is admitted to an edit
 
@@ -105,47 +100,11 @@ module _ (f : List Entry → Option Entry) (a : List ℕ) (h : Header) (first : 
   pub not-found : x ≡ Nothing → f (entriesOf a) ≡ none
   not-found p = sought-nothing (f (entriesOf a)) (sym seeks ∙ p)
 
--- ---- what both adds refuse first
+-- ---- numbers that are not refused
 
--- what an add comes to behind its admission
-abbrev pub behindAdmission : Headed → Outcome → Outcome
-behindAdmission (headed.Good h) o = o
-behindAdmission (headed.Refused r) o = refused r
-
--- the tests of the admission are those of an add
-same-tests : (c : Checked) (t s : Bool) (h : Header) (o : Outcome)
-    → afterAdmission c (cond t (refused Tag) (cond s (refused Shape) o)) ≡ behindAdmission (ifAdmitted c (cond t (headed.Refused Tag) (cond s (headed.Refused Shape) (headed.Good h)))) o
-same-tests (checked.Refused r) t s h o = refl
-same-tests (checked.Accepted f) true s h o = refl
-same-tests (checked.Accepted f) false true h o = refl
-same-tests (checked.Accepted f) false false h o = refl
-
--- an add is what follows the admission
-pub add-admission : (a : List ℕ) (base tag : ℕ) (content : List ℕ) (useVoids : Bool)
-    → add a base tag content useVoids ≡ behindAdmission (addAdmission a base tag (length content)) (addAt a tag content (takenVoid useVoids (length content) a))
-unfolding add addAdmission
-add-admission a base tag content useVoids = same-tests (admit a base) (refusesTagAdd tag) (refusesShape tag (length content)) (headerOf a) _
-
--- so is an aligned add
-pub aligned-admission : (a : List ℕ) (base tag : ℕ) (content : List ℕ) (exponent : ℕ)
-    → addAligned a base tag content exponent ≡ behindAdmission (addAdmission a base tag (length content)) (cond (refusesAlign exponent) (refused Align) (addAlignedAtEnd a base tag content exponent))
-unfolding addAligned addAdmission
-aligned-admission a base tag content exponent = same-tests (admit a base) (refusesTagAdd tag) (refusesShape tag (length content)) (headerOf a) _
-
--- the list that passes is admitted, and the tag in its range
-pub admission-good : (a : List ℕ) (base tag n : ℕ) (h : Header) → addAdmission a base tag n ≡ headed.Good h → Admitted a base h × (tag < 2 ^ 24)
-unfolding addAdmission
-admission-good a base tag n h e = go (admit a base) refl e
-  where
-    never : (r : Refusal) → headed.Refused r ≡ headed.Good h → ⊥
-    never r k = let z : _≡_ {A = ℕ} 0 1 = cc in omega arith
-
-    go : (c : Checked) → admit a base ≡ c → ifAdmitted c (cond (refusesTagAdd tag) (headed.Refused Tag) (cond (refusesShape tag n) (headed.Refused Shape) (headed.Good (headerOf a)))) ≡ headed.Good h → Admitted a base h × (tag < 2 ^ 24)
-    go (checked.Refused r) p k = absurd (never r k)
-    go (checked.Accepted f) p k =
-        let t = past (refusesTagAdd tag) _ _ _ (never Tag) k in
-        let s = past (refusesShape tag n) _ _ _ (never Shape) (t .1) in
-        (record { header = cc; sound = sound true a base f p }, tag-range tag (or-false (refusesTag tag) _ (t .0) .0) .1)
+-- a tag that an add may have
+pub add-tag : (tag : ℕ) → refusesTagAdd tag ≡ false → tag < 2 ^ 24
+add-tag tag h = tag-range tag (or-false (refusesTag tag) _ h .0) .1
 
 -- ---- decisions
 

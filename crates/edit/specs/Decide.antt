@@ -7,20 +7,13 @@ use lib.ListN.{length}
 use lib.Dec.{ltb, eqb}
 use Rattle.rules.specs.declared.Header.{Header}
 use Rattle.rules.specs.declared.Entry.{Entry}
-use Rattle.rules.specs.declared.Checked.{Checked}
-use Rattle.rules.specs.declared.Checked.the-variants as checked
-use Rattle.rules.specs.declared.Refusal.the-variants.{Tag, Shape, Room}
+use Rattle.rules.specs.declared.Refusal.the-variants.{Room}
 use Rattle.rules.specs.Area.{align8}
 use Rattle.rules.specs.Header.{headerOf}
 use Rattle.rules.specs.Checksum.{seal}
-use Rattle.rules.specs.Refusals.{refusesTagAdd}
-use Rattle.rules.specs.Tags.{refusesShape}
-use Rattle.rules.specs.Check.{admit}
 use Rattle.rules.specs.Outcome.{Outcome, refused, done}
 use Rattle.rules.specs.Add.{entryBytes, room, remainder}
 use Rattle.laws.proofs.Patch.{edited}
-use Rattle.walk.specs.declared.header.Headed.{Headed}
-use Rattle.walk.specs.declared.header.Headed.the-variants as headed
 use Rattle.plan.specs.declared.Plan.{Plan}
 use Rattle.plan.specs.declared.Planned.{Planned}
 use Rattle.plan.specs.declared.Planned.the-variants.{Go, Refused}
@@ -87,18 +80,6 @@ endOutcome a padding alignment tag content =
     (seal
     (edited a alignment (headerOf a .«used_size» + padding + 8 + align8 (length content)) (headerOf a .«used_size»)
     (wholeVoid padding ++ entryBytes tag content))))
-
--- a list that is not admitted is refused
-abbrev pub ifAdmitted : Checked → Headed → Headed
-ifAdmitted (checked.Accepted f) x = x
-ifAdmitted (checked.Refused r) x = headed.Refused r
-
--- what both adds refuse first, 1 to 8, 9 and 10, or the header of the list
-unfoldable pub addAdmission : List ℕ → ℕ → ℕ → ℕ → Headed
-addAdmission a base tag n =
-    ifAdmitted (admit a base)
-    (cond (refusesTagAdd tag) (headed.Refused Tag)
-    (cond (refusesShape tag n) (headed.Refused Shape) (headed.Good (headerOf a))))
 
 -- a plan that is to be written can be
 abbrev pub CanWrite : List ℕ → List ℕ → Planned → Type 0

@@ -14,7 +14,6 @@ use walk::cursor::Sought;
 use walk::cursor::Step;
 use walk::find;
 use walk::header;
-use walk::header::Headed;
 ghost use mathlib.Core.Path.{_≡_};
 ghost use mathlib.Core.List.{[]};
 ghost use Prim.Native.Nat.{_+_, _≤_, _<_, _^_, max};
@@ -28,7 +27,7 @@ ghost use Rattle.rules.specs.Void.{void as voidRule};
 ghost use Rattle.laws.proofs.Check.{Admitted};
 ghost use Rattle.walk.specs.Cursor.{sought, Unbroken};
 ghost use Rattle.plan.specs.Plan.{voidSpan};
-ghost use Rattle.edit.specs.Decide.{planInVoid, planAtEnd, planVoid, paddingFor, endOutcome, addAdmission, Decides};
+ghost use Rattle.edit.specs.Decide.{planInVoid, planAtEnd, planVoid, paddingFor, endOutcome, Decides};
 
 // n rounded up to a multiple of 8.
 fn align8(n: usize) -> usize
@@ -168,32 +167,21 @@ fn decide_place(
     Planned::Go(sum::with_checksum(in_void(h, e, tag, n), area, h, data))
 }
 
-// What both adds refuse first: checks 1 to 8, then 9 and 10; else the header of the list.
-fn admit_add(area: &[u8], base: u64, tag: u32, n: usize) -> Headed
-    ensures { λ r. ⌜ r ≡ addAdmission (now (area .entry)) base tag n ⌝ }
-{
-    let admitted = check::admit(area, base);
-    let Checked::Accepted(_) = admitted else {
-        return Headed::Refused(admitted.refusal());
-    };
-    if tags::refuses_tag_add(tag) {
-        return Headed::Refused(Refusal::Tag);
-    }
-    if tags::refuses_shape(tag, n) {
-        return Headed::Refused(Refusal::Shape);
-    }
-    Headed::Good(header::read_header(area))
-}
-
 // Add: checks 1 to 8, then 9, 10 and 14.
 pub fn decide_add(area: &[u8], base: u64, tag: u32, data: &[u8], use_voids: bool) -> Planned
     ensures { λ r. ⌜ Decides (now (area .entry)) (now («data» .entry)) (addRule (now (area .entry)) base tag (now («data» .entry)) «use_voids») r ⌝ }
 {
-    let admitted = admit_add(area, base, tag, data.len());
-    let Headed::Good(h) = admitted else {
+    let admitted = check::admit(area, base);
+    let Checked::Accepted(_) = admitted else {
         return Planned::Refused(admitted.refusal());
     };
-    decide_place(area, base, h, tag, data, use_voids)
+    if tags::refuses_tag_add(tag) {
+        return Planned::Refused(Refusal::Tag);
+    }
+    if tags::refuses_shape(tag, data.len()) {
+        return Planned::Refused(Refusal::Shape);
+    }
+    decide_place(area, base, header::read_header(area), tag, data, use_voids)
 }
 
 // The bytes of the padding void that brings the data to a multiple of 2^exponent: 0 where none is needed.
@@ -231,14 +219,21 @@ fn larger(alignment: u8, exponent: u32) -> u8
 pub fn decide_add_aligned(area: &[u8], base: u64, tag: u32, data: &[u8], exponent: u32) -> Planned
     ensures { λ r. ⌜ Decides (now (area .entry)) (now («data» .entry)) (addAlignedRule (now (area .entry)) base tag (now («data» .entry)) exponent) r ⌝ }
 {
-    let n = data.len();
-    let admitted = admit_add(area, base, tag, n);
-    let Headed::Good(h) = admitted else {
+    let admitted = check::admit(area, base);
+    let Checked::Accepted(_) = admitted else {
         return Planned::Refused(admitted.refusal());
     };
+    if tags::refuses_tag_add(tag) {
+        return Planned::Refused(Refusal::Tag);
+    }
+    let n = data.len();
+    if tags::refuses_shape(tag, n) {
+        return Planned::Refused(Refusal::Shape);
+    }
     if refuses_align(exponent) {
         return Planned::Refused(Refusal::Align);
     }
+    let h = header::read_header(area);
     decide_end(
         area,
         base,

@@ -18,7 +18,7 @@ ghost use Rattle.walk.specs.Headed.{refusalOfHeaded};
 
 impl Headed {
     // Why the header was refused.
-    pub fn refusal(self) -> Refusal
+    fn refusal(self) -> Refusal
         ensures { λ r. ⌜ r ≡ refusalOfHeaded self ⌝ }
     {
         match self {
