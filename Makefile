@@ -3,10 +3,12 @@
 # make test      everything that is checked; ends with rt ci, whose last line is 'N passed, 0 failed'
 # make lib       target/staticlib/libtransfer_list.a, for C on x86-64
 # make install   the archive, the header and a pkg-config file under PREFIX (default /usr/local)
+# make ctest     a C program over the header: every answer and byte as stored; the structures' layout
 # make compare   the library beside the independent second program: LISTS=N SEED=S
 # make bench     the library beside plain Rust
+# make size      the archive's sections
 #
-# It needs the Rattle kit (rt), make, gcc and g++, and for compare, test and bench cargo. Nothing is fetched from a network.
+# It needs the Rattle kit (rt), make, gcc and g++ with binutils, and for compare, test and bench cargo. Nothing is fetched from a network.
 
 LISTS = 200000
 SEED = 1
@@ -18,7 +20,7 @@ SOURCES = crates.txt $(shell find crates -name '*.rt' -o -name '*.antt')
 C_FLAGS = -std=c99 $(CFLAGS) -Iinclude
 CARGO = cargo build --quiet --release --offline
 
-.PHONY: run show test lib install compare bench fmt-check header-check symbols-check oracle-test size
+.PHONY: run show test lib install ctest compare bench fmt-check header-check symbols-check oracle-test size
 
 run: target/demo/paper target/demo/boot
 	target/demo/paper
@@ -27,7 +29,7 @@ run: target/demo/paper target/demo/boot
 show: target/demo/show
 	target/demo/show $(FILE) $(BASE)
 
-test: fmt-check header-check symbols-check oracle-test compare run
+test: fmt-check header-check symbols-check ctest oracle-test compare run
 	rt ci
 
 lib: $(LIB)
@@ -45,6 +47,18 @@ install: $(LIB)
 	install -m 644 include/transfer_list.h $(DESTDIR)$(PREFIX)/include/
 	@printf 'prefix=%s\nName: transfer_list\nDescription: transfer lists of the Firmware Handoff specification, proved\nVersion: 1\nCflags: -I$${prefix}/include\nLibs: -L$${prefix}/lib -ltransfer_list\n' $(PREFIX) > $(DESTDIR)$(PREFIX)/lib/pkgconfig/transfer_list.pc
 
+# ctest/answers.expected was worked out from the paper, not with the library
+ctest: target/ctest/answers
+	$(CC) $(C_FLAGS) -fsyntax-only ctest/layout.c
+	$(CC) -std=c11 $(CFLAGS) -Iinclude -fsyntax-only ctest/layout.c
+	$(CXX) -std=c++11 $(CFLAGS) -Iinclude -fsyntax-only -x c++ ctest/layout.c
+	target/ctest/answers > target/ctest/answers.out
+	diff -u ctest/answers.expected target/ctest/answers.out
+
+target/ctest/answers: ctest/answers.c include/transfer_list.h $(LIB)
+	mkdir -p target/ctest
+	$(CC) $(C_FLAGS) -o $@ $< $(LIB)
+
 compare: $(LIB)
 	$(CARGO) --manifest-path oracle/Cargo.toml --target-dir target/oracle
 	target/oracle/release/oracle $(LISTS) $(SEED)
@@ -53,8 +67,12 @@ compare: $(LIB)
 oracle-test:
 	cargo test --quiet --offline --manifest-path oracle/Cargo.toml --target-dir target/oracle
 
+# each function of both sides starts at a line of 64 bytes, so that no row hangs on the order in which they are linked
 bench: $(LIB)
-	$(CARGO) --manifest-path bench/Cargo.toml --target-dir target/bench
+	mkdir -p target/bench/lib
+	cp $(LIB) target/bench/lib/
+	objcopy --wildcard --set-section-alignment '.text.*=64' target/bench/lib/libtransfer_list.a
+	TL_LIB_DIR=$(CURDIR)/target/bench/lib RUSTFLAGS='-C llvm-args=-align-all-functions=6' $(CARGO) --manifest-path bench/Cargo.toml --target-dir target/bench
 	target/bench/release/bench
 
 fmt-check:

@@ -1,6 +1,6 @@
 /*
  * The boot of a test bench's controller, in four stages, each in its own area at its own address. Each stage checks the list that it is
- * handed, finds what it needs, edits, and relocates the list to the next. Run for several valves; then again with one byte damaged at a
+ * handed, finds what it needs, edits, and relocates the list to the next. Run for several valves; then again with one bit damaged at a
  * time, where the stage must stop with the refusal's number and never go on with anything older.
  */
 #include <stdio.h>

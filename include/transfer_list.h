@@ -99,7 +99,9 @@ tl_found tl_find(const uint8_t *area, size_t len, uint64_t base, uint32_t tag, u
  * @found: its answer
  *
  * tl_data() gives a pointer to the data itself, inside the area and not a copy, of which found.size bytes are the entry's. Of a refused
- * find it gives the start of the area, with found.size 0.
+ * find it gives the start of the area, with found.size 0. It is a small inline helper and not proved: it believes found, which must be
+ * what tl_find() answered for these very bytes. The proved form that hands back the part itself is the Rattle function tl_find_data in
+ * crates/transfer_list; a function that returns a slice cannot be exported to C.
  *
  * returns:
  *	a pointer to found.size bytes
@@ -144,7 +146,7 @@ tl_done tl_create(uint8_t *area, size_t len, uint64_t base, bool has_checksum);
  *	each refusal of tl_check()
  *	TL_READONLY, the list's version is over 1; it comes after TL_VERSION and before TL_SIZES
  *	TL_TAG, the tag is 0, over 0xffffff, or 0x800000 to 0xffefff
- *	TL_SHAPE, the tag is 6, 0x100 or 0x104 and data_len is not 12, 8 or 16
+ *	TL_SHAPE, the tag is 6, 0x100 or 0x104 and data_len is not 12, 8 or 16, respectively
  *	TL_ROOM, no allowed void serves and the entry does not fit behind used_size
  */
 tl_done tl_add(uint8_t *area, size_t len, uint64_t base, uint32_t tag, const uint8_t *data, size_t data_len, bool use_voids);

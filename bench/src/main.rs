@@ -1,12 +1,13 @@
 //! Times the library beside plain Rust in one run, both fully optimised: `make bench`.
 mod plain;
 
-use plain::{Checked, Done};
+use plain::{Checked, Done, Found};
 use std::hint::black_box;
 use std::time::Instant;
 
 extern "C" {
     fn tl_check(area: *const u8, len: usize, base: u64) -> Checked;
+    fn tl_find(area: *const u8, len: usize, base: u64, tag: u32, n: u64) -> Found;
     fn tl_add(area: *mut u8, len: usize, base: u64, tag: u32, data: *const u8, n: usize, voids: bool) -> Done;
     fn tl_void(area: *mut u8, len: usize, base: u64, tag: u32, n: u64) -> Done;
 }
@@ -18,6 +19,10 @@ const DATA: [u8; 64] = [0x5a; 64];
 
 fn library_check(area: &[u8]) -> Checked {
     unsafe { tl_check(area.as_ptr(), area.len(), BASE) }
+}
+
+fn library_find(area: &[u8]) -> Found {
+    unsafe { tl_find(area.as_ptr(), area.len(), BASE, LAST, 0) }
 }
 
 fn library_add(area: &mut [u8], voids: bool) -> Done {
@@ -72,21 +77,25 @@ fn report(what: &str, (library, plain): (f64, f64)) {
     println!("{what:<52} library {library:>8.0} ns  plain Rust {plain:>8.0} ns  ratio {:.2}", library / plain);
 }
 
-fn time_check(what: &str, area: &[u8]) {
-    let expected = plain::check(area, BASE, false);
-    assert_eq!(expected.number, 0, "{what}");
-    assert_eq!(library_check(area), expected, "{what}");
+/// Times a call that only reads.
+fn time_reading<T: PartialEq + std::fmt::Debug>(what: &str, area: &[u8], library: impl Fn(&[u8]) -> T, plain: impl Fn(&[u8]) -> T) {
+    assert_eq!(library(area), plain(area), "{what}");
     let times = least(
         200,
         50,
         || {
-            black_box(library_check(black_box(area)));
+            black_box(library(black_box(area)));
         },
         || {
-            black_box(plain::check(black_box(area), BASE, false));
+            black_box(plain(black_box(area)));
         },
     );
     report(what, times);
+}
+
+fn time_check(what: &str, area: &[u8]) {
+    assert_eq!(library_check(area).number, 0, "{what}");
+    time_reading(what, area, library_check, |a| plain::check(a, BASE, false));
 }
 
 /// Times an edit. Each call is followed by putting back the header and the last 256 bytes, which is all that these edits change.
@@ -122,6 +131,9 @@ fn main() {
     time_check("check, 65,536 bytes, entries of 8 bytes", &list((0..(LENGTH - 24) / 8).map(|_| (1, 0))));
     // entries of 32 bytes each up to byte 65,464, then 72 bytes of room
     let rows = (0..2045).map(|_| (1, 24));
+    let found = list(rows.clone().chain([(LAST, 64)]));
+    assert_eq!(library_find(&found).number, 0);
+    time_reading("find the last entry, entries of 32 bytes", &found, library_find, |a| plain::find(a, BASE, LAST, 0));
     time_edit(
         "add 64 bytes at the tail, entries of 32 bytes",
         &list(rows.clone()),

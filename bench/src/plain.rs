@@ -1,4 +1,4 @@
-//! A plain Rust check with the same answers, without proofs: what the library is measured beside.
+//! Plain Rust with the same answers, without proofs: what the library is measured beside.
 
 #[repr(C)]
 #[derive(Clone, Copy, Debug, Default, PartialEq, Eq)]
@@ -143,6 +143,31 @@ fn write(area: &mut [u8], used: usize, new_used: usize, at: usize, len: usize, f
     area[8..12].copy_from_slice(&(new_used as u32).to_le_bytes());
     if area[16] & 1 == 1 {
         area[4] ^= old ^ xor(&area[8..12]) ^ xor(&area[at..at + len]);
+    }
+}
+
+#[repr(C)]
+#[derive(Clone, Copy, Debug, Default, PartialEq, Eq)]
+pub struct Found {
+    pub number: u32,
+    pub offset: u32,
+    pub size: u32,
+}
+
+/// Find in a version 1 list, with the same answers as the library's.
+#[inline(never)]
+pub fn find(area: &[u8], base: u64, tag: u32, n: u64) -> Found {
+    let refused = |number| Found { number, ..Found::default() };
+    let c = check(area, base, false);
+    if c.number != 0 {
+        return refused(c.number);
+    }
+    if tag == 0 || tag > 0xff_ffff {
+        return refused(9);
+    }
+    match entries(&area[..c.used as usize]).filter(|e| e.1 == tag).nth(n as usize) {
+        Some((at, _, size)) => Found { number: 0, offset: at as u32 + 8, size: size as u32 },
+        None => refused(13),
     }
 }
 

@@ -3,21 +3,19 @@ use mathlib.Core.Path.{_≡_, sym, ap, _∙_}
 use Prim.Native.Nat.{ℕ, _+_, _-_, _%_, _≤_, _<_}
 use native.Mathlib.Omega.{arith}
 use native.Mathlib.Nat.{zero-add}
-use mathlib.Core.Bool.{Bool, true, false, _&&_}
+use mathlib.Core.Bool.{Bool, true, false}
 use mathlib.Core.List.{List, _++_, append-assoc}
 use lib.ListN.{length, take, drop, set, replicate, length-append, length-replicate}
 use lib.Seq.{take-at, set-getD}
-use lib.Dec.{leb}
-use borrow.Author.Tests.{leb-true}
 use Rattle.wire.specs.Bytes.{leBytes, xor, splice}
 use Rattle.wire.proofs.Splice.{splice-append, splice-snoc, splice-all}
 use Rattle.wire.proofs.Field.{length-leBytes}
 use Rattle.rules.specs.declared.Header.{Header}
-use Rattle.rules.specs.Area.{down8, multiple8, usable, maxLength, maxAddress}
+use Rattle.rules.specs.Area.{down8}
 use Rattle.rules.specs.Header.{headerBytes, freshHeader}
 use Rattle.rules.specs.Checksum.{seal}
 use Rattle.rules.specs.Create.{freshList}
-use Rattle.laws.proofs.Patch.{length-headerBytes, fresh-created}
+use Rattle.laws.proofs.FreshList.{length-headerBytes, fresh-created, unsealed}
 
 -- bytes written behind the first i of them
 next : (a p q : List ℕ) (i : ℕ) → length p ≡ i → splice (splice a 0 p) i q ≡ splice a 0 (p ++ q)
@@ -30,8 +28,21 @@ next-byte a p i v e h b =
     let m : v % 256 ≡ v = omega arith in
     rw (m, ← zero-add i) (splice-snoc a 0 p v i e (omega arith))
 
+-- a header's first eight bytes as they are written, and then the others
+abbrev firstFields : List ℕ → Header → List ℕ
+firstFields a h =
+    set (set (set (set (splice a 0 (leBytes 4 (h .signature))) 4 (h .checksum)) 5 (h .version)) 6 (h .«hdr_size»)) 7 (h .alignment)
+
+abbrev pub allFields : List ℕ → Header → List ℕ
+allFields a h =
+    splice
+    (splice (splice (splice (firstFields a h) 8 (leBytes 4 (h .«used_size»))) 12 (leBytes 4 (h .«total_size»))) 16 (leBytes 4 (h .flags)))
+    20
+    (leBytes 4 (h .reserved))
+
 -- the fields of a header, one behind the other
-pub fields : (a : List ℕ) (h : Header) → 24 ≤ length a → h .checksum < 256 → h .version < 256 → h .«hdr_size» < 256 → h .alignment < 256 → splice (splice (splice (splice (set (set (set (set (splice a 0 (leBytes 4 (h .signature))) 4 (h .checksum)) 5 (h .version)) 6 (h .«hdr_size»)) 7 (h .alignment)) 8 (leBytes 4 (h .«used_size»))) 12 (leBytes 4 (h .«total_size»))) 16 (leBytes 4 (h .flags))) 20 (leBytes 4 (h .reserved)) ≡ splice a 0 (headerBytes h)
+pub fields : (a : List ℕ) (h : Header) → 24 ≤ length a → h .checksum < 256 → h .version < 256 → h .«hdr_size» < 256 → h .alignment < 256
+    → allFields a h ≡ splice a 0 (headerBytes h)
 unfolding headerBytes
 fields a h l c v s m =
     let p₄ : List ℕ = leBytes 4 (h .signature) in
@@ -55,15 +66,12 @@ fields a h l c v s m =
     (simp append-assoc)
 
 -- a header and zeros behind it, up to the end of the list
-pub filled : (a h : List ℕ) → length h ≡ 24 → 24 ≤ length a → splice (splice a 0 h) 24 (replicate (length a - 24) 0) ≡ h ++ replicate (length a - 24) 0
+pub filled : (a h : List ℕ) → length h ≡ 24 → 24 ≤ length a
+    → splice (splice a 0 h) 24 (replicate (length a - 24) 0) ≡ h ++ replicate (length a - 24) 0
 filled a h e l =
     let z : List ℕ = replicate (length a - 24) 0 in
     let f : length (h ++ z) ≡ length a = rw (length-append, length-replicate, e) (omega arith) in
     next a h z 24 e ∙ splice-all a (h ++ z) f
-
--- the bytes that create writes before the checksum byte
-abbrev pub unsealed : ℕ → Bool → List ℕ
-unsealed len has = headerBytes (freshHeader (down8 len) has) ++ replicate (len - 24) 0
 
 -- with has_checksum byte 4 becomes the exclusive or of the header
 pub fresh-summed : (len : ℕ) (has : Bool) → has ≡ true → set (unsealed len has) 4 (xor (take 24 (drop 0 (unsealed len has)))) ≡ freshList len has
@@ -79,11 +87,3 @@ unfolding freshList seal headerBytes freshHeader leBytes
 fresh-unsummed len has e =
     let h : List ℕ = unsealed len has in
     sym (ap (set h 4) (fresh-created (down8 len) (len - 24) has ∙ rw e) ∙ set-getD h 4 0)
-
--- a usable area is no longer than the longest
-pub usable-short : (base len : ℕ) → usable base len ≡ true → len ≤ maxLength
-usable-short base len h = leb-true _ _ (last (multiple8 base && leb (base + len) maxAddress) (leb len maxLength) h)
-  where
-    last : (x y : Bool) → (x && y) ≡ true → y ≡ true
-    last true y e = e
-    last false y e = absurd (let z : _≡_ {A = ℕ} 0 1 = cc in omega arith)

@@ -7,13 +7,13 @@ ghost use mathlib.Core.Path.{_≡_};
 ghost use Prim.Native.Nat.{_≤_};
 ghost use lib.ListN.{length};
 ghost use Rattle.wire.specs.Bytes.{splice};
-ghost use Rattle.rules.specs.Header.{headerBytes};
+ghost use Rattle.rules.specs.Header.{headerSize, headerBytes};
 ghost use Rattle.rules.specs.Outcome.{answer, bytesAfter};
 ghost use Rattle.rules.specs.Create.{create as createRule};
 
 // The header's bytes, field after field.
 fn write_header(a: &mut [u8], h: Header)
-    requires { ⌜ 24 ≤ length (now a) ⌝ }
+    requires { ⌜ headerSize ≤ length (now a) ⌝ }
     ensures { λ _. ⌜ now (a .exit) ≡ splice (now (a .entry)) 0 (headerBytes h) ⌝ }
 {
     wire::write4(a, 0, h.signature);
@@ -36,14 +36,15 @@ pub fn create(area: &mut [u8], base: u64, has_checksum: bool) -> Done
     if !header::usable(base, len) {
         return Done::Refused(Refusal::Area);
     }
-    if len <= 24 {
+    let size = Header::SIZE as usize;
+    if len <= size {
         return Done::Refused(Refusal::Short);
     }
     let total = (len / 8 * 8) as u32;
     write_header(area, Header::fresh(total, has_checksum));
-    wire::zero_part(area, 24, len - 24);
+    wire::zero_part(area, size, len - size);
     if has_checksum {
-        let x = wire::xor_part(area, 0, 24);
+        let x = wire::xor_part(area, 0, size);
         area[4] = x;
     }
     Done::Value(total)

@@ -1,10 +1,30 @@
 -- Demand 3, proved of the written rules.
-use Rattle.rules.specs.Edit.{add, addAligned, void, relocate}
-use Rattle.rules.specs.Demand3.{Demand3}
+use mathlib.Core.Path.{_≡_}
+use Prim.Native.Nat.{ℕ}
+use native.Mathlib.Omega.{arith}
+use mathlib.Core.List.{List}
+use Rattle.rules.specs.declared.Checked.{Checked}
+use Rattle.rules.specs.declared.Checked.the-variants.{Accepted, Refused}
+use Rattle.rules.specs.Check.{admit}
+use Rattle.rules.specs.Outcome.{Outcome, done, afterAdmission}
+use Rattle.rules.specs.Edit.{Edit, toAdd, toAddAligned, toVoid, toRelocate, act}
+use Rattle.rules.specs.Demand3.{AcceptedV1, Holds, Demand3}
 use Rattle.demand3.proofs.Add.{add-holds}
 use Rattle.demand3.proofs.AddAligned.{add-aligned-holds}
 use Rattle.demand3.proofs.Void.{void-holds}
 use Rattle.demand3.proofs.Relocate.{relocate-holds}
+
+-- the act of an edit that is done, of a list that is admitted, is done
+acted : (k : Checked) (x : Outcome) (value : ℕ) (bytes : List ℕ) → afterAdmission k x ≡ done value bytes → x ≡ done value bytes
+acted (Accepted f) x value bytes h = h
+acted (Refused r) x value bytes h = absurd (let z : _≡_ {A = ℕ} 0 1 = cc in omega arith)
+
+-- demand 3 of each act
+act-holds : (e : Edit) (a : List ℕ) (base value : ℕ) (bytes : List ℕ) → AcceptedV1 a base → act e a base ≡ done value bytes → Holds e a base value bytes
+act-holds (toAdd tag content useVoids) a base value bytes accepted h = add-holds a base tag value content useVoids bytes accepted h
+act-holds (toAddAligned tag content exponent) a base value bytes accepted h = add-aligned-holds a base tag value content exponent bytes accepted h
+act-holds (toVoid tag n) a base value bytes accepted h = void-holds a base tag n value bytes accepted h
+act-holds (toRelocate target targetBase) a base value bytes accepted h = relocate-holds a base target targetBase value bytes accepted h
 
 -- The theorem. Take any list a at any base that a check accepts with version 1, and any edit of it: an add with any tag,
 -- any bytes of data and voids allowed or not; an add aligned to any exponent; a void of any occurrence of any tag; a relocation to
@@ -22,7 +42,4 @@ use Rattle.demand3.proofs.Relocate.{relocate-holds}
 -- Each word of this is defined in rules' specs/Demand3.antt. The theorem speaks of the written rules alone: that a function does
 -- what they say is that function's own statement.
 pub demand3 : Demand3
-demand3 (add tag content useVoids) a base value bytes accepted h = add-holds a base tag value content useVoids bytes accepted h
-demand3 (addAligned tag content exponent) a base value bytes accepted h = add-aligned-holds a base tag value content exponent bytes accepted h
-demand3 (void tag n) a base value bytes accepted h = void-holds a base tag n value bytes accepted h
-demand3 (relocate target targetBase) a base value bytes accepted h = relocate-holds a base target targetBase value bytes accepted h
+demand3 e a base value bytes accepted h = act-holds e a base value bytes accepted (acted (admit a base) (act e a base) value bytes h)

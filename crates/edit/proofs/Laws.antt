@@ -1,173 +1,120 @@
--- Laws of the edits: what stands where an edit writes, and that each plan comes to what the rules say.
+-- Laws of the edits: where the entries of an admitted list stand, that each plan is well-formed, and that it comes to what the rules say.
 use mathlib.Core.Path.{_≡_, refl, sym, ap, _∙_, subst}
-use Prim.Native.Nat.{ℕ, zero, suc, _+_, _-_, _%_, _^_, _≤_, _<_, max}
+use Prim.Native.Nat.{ℕ, _+_, _-_, _%_, _^_, _≤_, _<_, max}
 use native.Mathlib.Omega.{arith}
 use native.Mathlib.Nat.{mod-lt}
-use native.Mathlib.Numerals.{add-one}
-use mathlib.Core.Bool.{Bool, true, false, not, _||_}
+use mathlib.Core.Bool.{Bool, true, false}
 use mathlib.Core.List.{List, [], _∷_, _++_, append-assoc, append-nil}
-use mathlib.Core.Option.{Option, none, some}
-use lib.ListN.{length, drop, getD, length-append}
+use mathlib.Core.Option.{some}
+use lib.ListN.{length, length-append}
 use lib.Pow.{pow-mono}
 use lib.Dec.{ltb, eqb}
-use borrow.Author.Tests.{ltb-true, ltb-false, le-leb, lt-leb, lt-ltb, le-ltb, eqb-true, eqb-false, eq-eqb, ne-eqb}
-use Rattle.wire.specs.Bytes.{Bytes}
+use borrow.Author.Tests.{ltb-true, ltb-false, le-leb, lt-leb, lt-ltb, le-ltb, eqb-false}
+use Rattle.wire.proofs.Range.{Bytes}
 use Rattle.rules.specs.declared.Header.{Header}
 use Rattle.rules.specs.declared.Entry.{Entry}
 use Rattle.rules.specs.declared.Refusal.{Refusal}
 use Rattle.rules.specs.declared.Refusal.the-variants.{Room}
 use Rattle.rules.specs.Area.{align8, maxLength, maxAlignment}
-use Rattle.rules.specs.Header.{headerOf}
-use Rattle.rules.specs.Entries.{span, walkFrom, firstEntry, walk, seen, entriesOf, occurrence}
+use Rattle.rules.specs.Header.{headerOf, headerSize}
+use Rattle.rules.specs.Edition.{current}
+use Rattle.rules.specs.Entries.{entriesOf, occurrence}
 use Rattle.rules.specs.Checksum.{seal}
-use Rattle.rules.specs.Refusals.{refusesTag, refusesTagAdd, refusesAlign}
-use Rattle.rules.specs.Tags as rule
-use Rattle.rules.specs.Tags.{Lengths, any, exactly, allows, allowedIn}
 use Rattle.rules.specs.Outcome.{Outcome, refused, done}
 use Rattle.rules.specs.Add.{entryBytes, remainder, voidBehind, firstFit, addInVoid, addAtEnd, room}
 use Rattle.rules.specs.AddAligned.{voidBytes, paddingVoid, alignedBytes, addAlignedAtEnd}
 use Rattle.rules.specs.Void.{voidAt}
-use Rattle.laws.proofs.Walk.{or-false}
-use Rattle.laws.proofs.Check.{Sound, occurs-inside, first-least, Admitted}
-use Rattle.laws.proofs.Patch.{edited, in-place, appended, appended-aligned, length-entryBytes}
-use Rattle.demand3.proofs.Row.{Fine}
-use Rattle.demand3.proofs.Live.{Parts, first-fit}
-use Rattle.demand3.proofs.Ready.{Ready, ready-of}
-use Rattle.demand3.proofs.Answered.{accepted}
-use Rattle.demand3.proofs.Change.{placed}
-use Rattle.demand3.proofs.Outcome.{tag-range}
-use Rattle.demand3.proofs.Power.{power-positive, power-eights, eights-mod}
-use Rattle.walk.specs.declared.cursor.Sought.{Sought}
-use Rattle.walk.specs.declared.cursor.Sought.the-variants.{At, Nothing}
-use Rattle.walk.specs.Cursor.{sought, Unbroken}
+use Rattle.laws.proofs.Check.{used-least, used-most, Admitted}
+use Rattle.laws.proofs.Row.{row-eights}
+use Rattle.laws.proofs.Live.{Parts, first-fit, occurs}
+use Rattle.laws.proofs.Ready.{Ready, ready-sound}
+use Rattle.laws.proofs.Change.{Placed, placed}
+use Rattle.laws.proofs.Power.{power-positive, power-eights, eights-mod}
+use Rattle.laws.proofs.Patch.{edited, in-place, appended, appended-aligned}
+use Rattle.laws.proofs.EntryBytes.{length-entryBytes}
 use Rattle.plan.specs.declared.Plan.{Plan}
-use Rattle.plan.specs.declared.Planned.{Planned}
 use Rattle.plan.specs.declared.Planned.the-variants.{Go, Refused}
-use Rattle.plan.specs.Plan.{wholeVoid, voidHeader, voidSpan, headerSpan, stretchOf, after, withChecksum, outcomeOf, Moderate}
-use Rattle.plan.proofs.Laws.{length-wholeVoid, length-stretchOf, no-header, some-header, after-sealed}
-use Rattle.edit.specs.declared.tags.TagRow.{TagRow}
-use Rattle.edit.specs.Decide.{planInVoid, planAtEnd, planVoid, paddingFor, endOutcome, Decides}
+use Rattle.plan.specs.Plan.{wholeVoid, voidHeader, voidSpan, stretchOf, withChecksum, outcomeOf, WellFormed, Decides}
+use Rattle.plan.proofs.Laws.{length-wholeVoid, headerSpan-le, no-header, some-header, after-sealed}
+use Rattle.edit.specs.Decide.{planInVoid, planAtEnd, planVoid, paddingFor, endOutcome}
 
--- ---- a list that is admitted to an edit
+-- ---- where the entries of an admitted list stand
 
--- where one of its entries stands
-pub record Stands (a : List ℕ) (e : Entry) : Type 0 where
-  pub fine : Fine e
-  pub low : 24 ≤ e .at
-  pub high : e .at + span e ≤ headerOf a .«used_size»
+module _ (a : List ℕ) (base : ℕ) (h : Header) (m : Admitted a base h) where
+  -- each of them behind the header and before used_size, at a multiple of 8
+  stands : (e : Entry) (k : Parts (entriesOf a) e) → Placed a (k .before) e (k .behind) × (e .at % 8 ≡ 0)
+  stands e k =
+      let r : Ready a base (k .before ++ (e ∷ k .behind)) = subst (Ready a base) (k .whole) (ready-sound a base (m .sound) (m .version)) in
+      let p : Placed a (k .before) e (k .behind) = placed a base (k .before) e (k .behind) r in
+      (p, row-eights a headerSize (e .at) (k .before) (p .front) (omega arith))
 
--- each one stands so
-pub stands : (a : List ℕ) (base : ℕ) (e : Entry) → Sound true a base → Parts (entriesOf a) e → Stands a e
-unfolding headerOf
-stands a base e s p =
-    let r : Ready a base (p .before ++ (e ∷ p .behind)) = subst (Ready a base) (p .whole) (ready-of a base (accepted a base s)) in
-    let k = placed a base (p .before) e (p .behind) r in
-    record { fine = k .fine; low = k .low; high = k .high }
+  -- the first void that fits has room for the data rounded up to a multiple of 8
+  pub void-room : (n : ℕ) (e : Entry) → firstFit n (entriesOf a) ≡ some e
+      → (headerSize ≤ e .at) × (e .at % 8 ≡ 0) × (align8 n ≤ e .«data_size») × (e .at + (8 + e .«data_size») ≤ headerOf a .«used_size»)
+  void-room n e f =
+      let k = first-fit n (entriesOf a) e f in
+      let s = stands e (k .0) in
+      let p = s .0 in
+      let z : e .«hdr_size» ≡ 8 = p .regular .header in
+      let v : e .«data_size» % 8 ≡ 0 = p .regular .eights (k .1) in
+      let l : n ≤ e .«data_size» = k .2 in
+      let g = p .high in
+      (p .low, s .1, omega arith, omega arith)
 
--- the header that was read has the area's sizes
-pub same-sizes : (a : List ℕ) (base : ℕ) (h : Header) → Admitted a base h → (h .«used_size» ≡ headerOf a .«used_size») × (h .«total_size» ≡ headerOf a .«total_size»)
-same-sizes a base h m = (ap (λ (y : Header). y .«used_size») (m .header), ap (λ (y : Header). y .«total_size») (m .header))
-
--- its walk, from the header that was read, is unbroken and stays within the area
-pub walks : (a : List ℕ) (base : ℕ) (h : Header) (first : ℕ) → Admitted a base h → first ≡ firstEntry h
-    → (first ≤ h .«used_size») × (h .«used_size» ≤ length a) × Unbroken (walkFrom (h .version) a (h .«used_size») first)
-unfolding walk
-walks a base h first m f =
-    let s : Sound true a base = m .sound in
-    rw (f, m .header) (s .first, omega (arith, s .used, s .total), subst Unbroken (sym (s .walked)) tt)
-
--- ---- what a search answers
-
-sought-at : (o : Option Entry) (e : Entry) → sought o ≡ At e → o ≡ some e
-sought-at (some x) e h = cc
-sought-at none e h = absurd (let z : _≡_ {A = ℕ} 0 1 = cc in omega arith)
-
-sought-nothing : (o : Option Entry) → sought o ≡ Nothing → o ≡ none
-sought-nothing (some x) h = absurd (let z : _≡_ {A = ℕ} 0 1 = cc in omega arith)
-sought-nothing none h = refl
-
--- a search f through the walk from the header that was read is one through the entries of the list
-module _ (f : List Entry → Option Entry) (a : List ℕ) (h : Header) (first : ℕ) (x : Sought) (e : h ≡ headerOf a) (i : first ≡ firstEntry h) (k : x ≡ sought (f (seen (walkFrom (h .version) a (h .«used_size») first)))) where
-  seeks : x ≡ sought (f (entriesOf a))
-  unfolding entriesOf walk
-  seeks = k ∙ rw (i, e)
-
-  -- the entry that it answers
-  pub found : (y : Entry) → x ≡ At y → f (entriesOf a) ≡ some y
-  found y p = sought-at (f (entriesOf a)) y (sym seeks ∙ p)
-
-  -- and that there is none
-  pub not-found : x ≡ Nothing → f (entriesOf a) ≡ none
-  not-found p = sought-nothing (f (entriesOf a)) (sym seeks ∙ p)
-
--- ---- numbers that are not refused
-
--- a tag that an add may have
-pub add-tag : (tag : ℕ) → refusesTagAdd tag ≡ false → tag < 2 ^ 24
-add-tag tag h = tag-range tag (or-false (refusesTag tag) _ h .0) .1
+  -- an occurrence of a tag has room for the void that takes its place
+  entry-room : (tag n : ℕ) (e : Entry) → 0 < tag → occurrence tag n (entriesOf a) ≡ some e
+      → (headerSize ≤ e .at) × (e .at % 8 ≡ 0) × (e .at + (8 + align8 (e .«data_size»)) ≤ headerOf a .«used_size»)
+  entry-room tag n e t f =
+      let s = stands e (occurs tag n (entriesOf a) e (λ z. omega arith) f .parts) in
+      let p = s .0 in
+      let z : e .«hdr_size» ≡ 8 = p .regular .header in
+      let g = p .high in
+      (p .low, s .1, omega arith)
 
 -- ---- decisions
-
--- what the checksum of a plan asks for
-abbrev Asked : List ℕ → Header → Plan → Type 0
-Asked a h p = (h ≡ headerOf a) × (h .«used_size» ≤ length a) × (p .at ≤ h .«used_size») × Moderate p
 
 -- what a refusal comes to
 pub decides-refused : (a content : List ℕ) (o : Outcome) (r : Refusal) → o ≡ refused r → Decides a content o (Refused r)
 unfolding outcomeOf
 decides-refused a content o r h = record { comes = sym h; writable = tt }
 
--- the outcome of a decision to refuse
-pub refuses : (a content : List ℕ) (o : Outcome) (r : Refusal) → Decides a content o (Refused r) → o ≡ refused r
-unfolding outcomeOf
-refuses a content o r d = sym (d .comes)
+-- the outcome that a plan stands for: the edited area with the checksum worked out afresh
+abbrev planned : List ℕ → List ℕ → Plan → Outcome
+planned a content p = done (p .value) (seal (edited a (p .alignment) (p .«used_size») (p .at) (stretchOf p content)))
 
--- the outcome of a decision to write
-pub goes : (a content : List ℕ) (o : Outcome) (p : Plan) → Decides a content o (Go p) → o ≡ done (p .value) (after p a content)
-unfolding outcomeOf
-goes a content o p d = sym (d .comes)
-
--- where a plan's stretch lies in an area, and the used_size that comes of it
-record Lies (a content : List ℕ) (p : Plan) : Type 0 where
-  low : 24 ≤ p .at
-  old : p .at ≤ headerOf a .«used_size»
-  new : p .«used_size» ≡ max (headerOf a .«used_size») (p .at + length (stretchOf p content))
-  inside : p .at + p .padding + 8 + length content + p .zeros + p .behind ≤ length a
-  padding : p .padding ≡ voidSpan (p .padding)
-  tag : p .«tag_id» < 2 ^ 24
-  small : p .alignment < 256
-
--- a void's header covers no more bytes than the void is given
-headerSpan-fits : (n : ℕ) → headerSpan n ≤ n
-headerSpan-fits n = go (ltb n 8) refl
-  where
-    go : (b : Bool) → ltb n 8 ≡ b → headerSpan n ≤ n
-    go true t = rw t (omega arith)
-    go false t = let h : 8 ≤ n = ltb-false n 8 t in rw t h
-
--- a plan that lies so comes, with its checksum, to the edited area with the checksum worked out afresh
-sealed : (a content : List ℕ) (base : ℕ) (p : Plan) → Sound true a base → Bytes a → Lies a content p
-    → Decides a content (done (p .value) (seal (edited a (p .alignment) (p .«used_size») (p .at) (stretchOf p content)))) (Go (withChecksum a content p))
+-- a well-formed plan, with its checksum, decides on every outcome that it stands for
+pub decides-plan : (a content : List ℕ) (base : ℕ) (h : Header) (p : Plan) (o : Outcome) → Admitted a base h → Bytes a
+    → WellFormed h (length a) (length content) p → planned a content p ≡ o → Decides a content o (Go (withChecksum a content p))
 unfolding outcomeOf withChecksum
-sealed a content base p s b k =
-    let l : length (stretchOf p content) ≡ voidSpan (p .padding) + (8 + (length content + (p .zeros + headerSpan (p .behind)))) = length-stretchOf p content in
-    let f : headerSpan (p .behind) ≤ p .behind = headerSpan-fits (p .behind) in
-    let i = k .inside in
-    let q = k .padding in
-    let n = k .new in
-    let top : headerOf a .«used_size» ≤ length a = omega (arith, s .used, s .total) in
-    let near : length a ≤ maxLength = s .short in
+decides-plan a content base h p o m b w e =
+    let v : WellFormed (headerOf a) (length a) (length content) p =
+    subst (λ (x : Header). WellFormed x (length a) (length content) p) (m .header) w in
     record {
-      comes = ap (done (p .value)) (after-sealed p a content b (s .summed) (k .low) (k .old) n top (omega arith) (k .small));
-      writable = record { header = k .low; inside = i; padding = q; tag = k .tag; small = omega arith };
+      comes = ap (done (p .value)) (after-sealed p a content b (m .sound .summed) (used-most current a base (m .sound)) v) ∙ e;
+      writable = record {
+        low = v .low;
+        eights = v .eights;
+        old = v .old;
+        used = v .used;
+        inside = v .inside;
+        padding = v .padding;
+        tag = v .tag;
+        alignment = v .alignment;
+        small = v .small;
+      };
     }
 
--- ---- an entry in the place of a void
+-- what the checksum of a well-formed plan asks for
+pub asks : (a : List ℕ) (base : ℕ) (h : Header) (n : ℕ) (p : Plan) → Admitted a base h → WellFormed h (length a) n p
+    → (h ≡ headerOf a) × (h .«used_size» ≤ length a) × WellFormed h (length a) n p
+asks a base h n p m w = (m .header, rw (m .header) (used-most current a base (m .sound)), w)
+
+-- ---- the bytes that the plans write
 
 -- what is left of a void of v bytes of data is written as the rule has it
-behind-void : (v n : ℕ) → voidHeader (remainder v n) ≡ voidBehind v n
+remainder-void : (v n : ℕ) → voidHeader (remainder v n) ≡ voidBehind v n
 unfolding voidBehind
-behind-void v n = go (ltb (remainder v n) 8) refl
+remainder-void v n = go (ltb (remainder v n) 8) refl
   where
     go : (b : Bool) → ltb (remainder v n) 8 ≡ b → voidHeader (remainder v n) ≡ voidBehind v n
     go true t =
@@ -178,125 +125,140 @@ behind-void v n = go (ltb (remainder v n) 8) refl
         some-header (remainder v n) h ∙ rw (le-leb 8 (remainder v n) h)
 
 -- the bytes of the plan are the rule's
-stretch-in-void : (h : Header) (e : Entry) (tag : ℕ) (content : List ℕ) → stretchOf (planInVoid h e tag (length content)) content ≡ entryBytes tag content ++ voidBehind (e .«data_size») (length content)
-unfolding stretchOf planInVoid entryBytes wholeVoid
-stretch-in-void h e tag content = simp (append-assoc, behind-void)
+stretch-in-void : (h : Header) (e : Entry) (tag : ℕ) (content : List ℕ)
+    → stretchOf (planInVoid h e tag (length content)) content ≡ entryBytes tag content ++ voidBehind (e .«data_size») (length content)
+unfolding stretchOf entryBytes wholeVoid
+stretch-in-void h e tag content = simp (append-assoc, remainder-void)
 
--- the first void that fits has room for the data rounded up to a multiple of 8
-pub void-room : (a : List ℕ) (base n : ℕ) (e : Entry) → Sound true a base → firstFit n (entriesOf a) ≡ some e
-    → (24 ≤ e .at) × (align8 n ≤ e .«data_size») × (e .at + (8 + e .«data_size») ≤ headerOf a .«used_size»)
-void-room a base n e s f =
-    let p = first-fit n (entriesOf a) e f in
-    let k : Stands a e = stands a base e s (p .0) in
-    let m : e .«data_size» % 8 ≡ 0 = k .fine .eights (p .1) in
-    let z : e .«hdr_size» ≡ 8 = k .fine .header in
-    let l : n ≤ e .«data_size» = p .2 in
-    let g = k .high in
-    (k .low, omega arith, omega arith)
-
--- the plan of an add into a void comes to the rule's add
-pub in-void : (a content : List ℕ) (base : ℕ) (h : Header) (e : Entry) (tag : ℕ) → Admitted a base h → Bytes a → firstFit (length content) (entriesOf a) ≡ some e → tag < 2 ^ 24
-    → Decides a content (addInVoid a tag content e) (Go (withChecksum a content (planInVoid h e tag (length content))))
-unfolding planInVoid addInVoid
-in-void a content base h e tag m b f t =
-    let s : Sound true a base = m .sound in
-    let r = void-room a base (length content) e s f in
-    let p : Plan = planInVoid h e tag (length content) in
-    let x : List ℕ = entryBytes tag content ++ voidBehind (e .«data_size») (length content) in
-    let w : stretchOf p content ≡ x = stretch-in-void h e tag content in
-    let l : length (stretchOf p content) ≡ voidSpan 0 + (8 + (length content + (align8 (length content) - length content + headerSpan (remainder (e .«data_size») (length content))))) = length-stretchOf p content in
-    let g : headerSpan (remainder (e .«data_size») (length content)) ≤ remainder (e .«data_size») (length content) = headerSpan-fits (remainder (e .«data_size») (length content)) in
-    let u : h .«used_size» ≡ headerOf a .«used_size» = ap (λ (y : Header). y .«used_size») (m .header) in
-    let i : h .alignment ≡ headerOf a .alignment = ap (λ (y : Header). y .alignment) (m .header) in
-    let top : headerOf a .«used_size» ≤ length a = omega (arith, s .used, s .total) in
-    let d = sealed a content base p s b (record {
-      low = r .0;
-      old = omega arith;
-      new = omega arith;
-      inside = omega arith;
-      padding = refl;
-      tag = t;
-      small = omega (arith, s .most);
-    }) in
-    let o : done (e .at + 8) (seal (edited a (h .alignment) (h .«used_size») (e .at) (stretchOf p content))) ≡ addInVoid a tag content e =
-    rw (w, u, i, in-place a (e .at) x b (s .long)) in
-    subst (λ (y : Outcome). Decides a content y (Go (withChecksum a content p))) o d
-
--- and its checksum can be worked out
-pub void-asks : (a : List ℕ) (base : ℕ) (h : Header) (e : Entry) (tag n : ℕ) → Admitted a base h → firstFit n (entriesOf a) ≡ some e → tag < 2 ^ 24 → Asked a h (planInVoid h e tag n)
-unfolding planInVoid
-void-asks a base h e tag n m f t =
-    let s : Sound true a base = m .sound in
-    let r = void-room a base n e s f in
-    let u = same-sizes a base h m in
-    let top : headerOf a .«used_size» ≤ length a = omega (arith, s .used, s .total) in
-    let near : length a ≤ maxLength = s .short in
-    (m .header, omega arith, omega arith, record { padding = omega arith; zeros = omega arith; behind = omega arith; tag = t })
-
--- ---- an entry at used_size
-
--- the bytes of the plan are the rule's
-stretch-at-end : (h : Header) (padding alignment tag : ℕ) (content : List ℕ) → stretchOf (planAtEnd h padding alignment tag (length content)) content ≡ wholeVoid padding ++ entryBytes tag content
-unfolding stretchOf planAtEnd entryBytes voidHeader
+-- and of the plan at used_size
+stretch-at-end : (h : Header) (padding alignment tag : ℕ) (content : List ℕ)
+    → stretchOf (planAtEnd h padding alignment tag (length content)) content ≡ wholeVoid padding ++ entryBytes tag content
+unfolding stretchOf entryBytes voidHeader
 stretch-at-end h padding alignment tag content = simp append-nil
 
--- with room enough the plan of an add at used_size comes to that add
-pub at-end : (a content : List ℕ) (base : ℕ) (h : Header) (padding alignment tag : ℕ) → Admitted a base h → Bytes a → padding ≡ voidSpan padding → alignment < 256 → tag < 2 ^ 24 → padding + (8 + align8 (length content)) ≤ room a
-    → Decides a content (endOutcome a padding alignment tag content) (Go (withChecksum a content (planAtEnd h padding alignment tag (length content))))
-unfolding planAtEnd endOutcome
-at-end a content base h padding alignment tag m b v z t f =
-    let s : Sound true a base = m .sound in
-    let p : Plan = planAtEnd h padding alignment tag (length content) in
-    let x : List ℕ = wholeVoid padding ++ entryBytes tag content in
-    let w : stretchOf p content ≡ x = stretch-at-end h padding alignment tag content in
-    let l : length (stretchOf p content) ≡ voidSpan padding + (8 + (length content + (align8 (length content) - length content + headerSpan 0))) = length-stretchOf p content in
-    let u : h .«used_size» ≡ headerOf a .«used_size» = ap (λ (y : Header). y .«used_size») (m .header) in
-    let low : 24 ≤ headerOf a .«used_size» = omega (arith, first-least true a base s, s .first) in
-    let fit : headerOf a .«used_size» + (padding + (8 + align8 (length content))) ≤ length a = omega (arith, s .used, s .total) in
-    let d = sealed a content base p s b (record {
-      low = omega arith;
-      old = omega arith;
-      new = omega arith;
-      inside = omega arith;
-      padding = v;
-      tag = t;
-      small = z;
-    }) in
-    let o : done (h .«used_size» + padding + 8) (seal (edited a alignment (h .«used_size» + padding + 8 + align8 (length content)) (h .«used_size») (stretchOf p content))) ≡ endOutcome a padding alignment tag content =
-    rw (w, u, le-ltb (room a) (padding + (8 + align8 (length content))) f) in
-    subst (λ (y : Outcome). Decides a content y (Go (withChecksum a content p))) o d
+-- and of the plan of a void
+stretch-void : (h : Header) (e : Entry) → stretchOf (planVoid h e) [] ≡ voidBytes (align8 (e .«data_size»))
+unfolding stretchOf voidBytes wholeVoid voidHeader
+stretch-void h e = simp append-nil
 
--- and its checksum can be worked out
-pub end-asks : (a : List ℕ) (base : ℕ) (h : Header) (padding alignment tag n : ℕ) → Admitted a base h → tag < 2 ^ 24 → padding + (8 + align8 n) ≤ room a → Asked a h (planAtEnd h padding alignment tag n)
-unfolding planAtEnd
-end-asks a base h padding alignment tag n m t f =
-    let s : Sound true a base = m .sound in
-    let u = same-sizes a base h m in
-    let top : headerOf a .«total_size» ≤ length a = s .total in
-    let low : headerOf a .«used_size» ≤ headerOf a .«total_size» = s .used in
-    let near : length a ≤ maxLength = s .short in
-    (m .header, omega arith, omega arith, record { padding = omega arith; zeros = omega arith; behind = omega arith; tag = t })
+-- ---- the plans
 
--- without room the add is refused
-pub no-room : (a content : List ℕ) (padding alignment tag : ℕ) → room a < padding + (8 + align8 (length content)) → endOutcome a padding alignment tag content ≡ refused Room
-unfolding endOutcome
-no-room a content padding alignment tag h = rw (lt-ltb (room a) (padding + (8 + align8 (length content))) h)
+module _ (a : List ℕ) (base : ℕ) (h : Header) (m : Admitted a base h) where
+  -- the header that was read is the list's
+  same-used : h .«used_size» ≡ headerOf a .«used_size»
+  same-used = ap (λ (x : Header). x .«used_size») (m .header)
 
--- the add at used_size has no padding and leaves the alignment
-pub add-end : (a : List ℕ) (base tag : ℕ) (content : List ℕ) → Sound true a base → Bytes a → addAtEnd a tag content ≡ endOutcome a 0 (headerOf a .alignment) tag content
-unfolding addAtEnd endOutcome wholeVoid
-add-end a base tag content s b =
-    let l : length (entryBytes tag content) ≡ align8 (8 + length content) = length-entryBytes tag content in
-    let n : 0 + (8 + align8 (length content)) ≡ align8 (8 + length content) = omega arith in
-    let u : headerOf a .«used_size» + 0 + 8 ≡ headerOf a .«used_size» + 8 = omega arith in
-    let w : headerOf a .«used_size» + 0 + 8 + align8 (length content) ≡ headerOf a .«used_size» + length (entryBytes tag content) = omega arith in
-    let low : 24 ≤ headerOf a .«used_size» = omega (arith, first-least true a base s, s .first) in
-    let top : headerOf a .«used_size» ≤ length a = omega (arith, s .used, s .total) in
-    rw (n, w, u, appended a (entryBytes tag content) b low top)
+  same-total : h .«total_size» ≡ headerOf a .«total_size»
+  same-total = ap (λ (x : Header). x .«total_size») (m .header)
 
--- what decides on the one decides on the other
-pub add-at-end : (a content : List ℕ) (base : ℕ) (h : Header) (tag : ℕ) (r : Planned) → Admitted a base h → Bytes a → Decides a content (endOutcome a 0 (h .alignment) tag content) r → Decides a content (addAtEnd a tag content) r
-add-at-end a content base h tag r m b d = rw (add-end a base tag content (m .sound) b, ← m .header) d
+  same-alignment : h .alignment ≡ headerOf a .alignment
+  same-alignment = ap (λ (x : Header). x .alignment) (m .header)
+
+  -- its used bytes start with a header and end within the area
+  used-range : (headerSize ≤ headerOf a .«used_size») × (headerOf a .«used_size» ≤ length a) × (length a ≤ maxLength)
+  used-range = (used-least current a base (m .sound), used-most current a base (m .sound), m .sound .header .usable .short)
+
+  -- there is as much room as the header says
+  pub same-room : h .«total_size» - h .«used_size» ≡ room a
+  same-room = rw (same-used, same-total)
+
+  -- an entry in the place of the first void that fits
+  pub in-void-formed : (e : Entry) (tag n : ℕ) → firstFit n (entriesOf a) ≡ some e → tag < 2 ^ 24
+      → WellFormed h (length a) n (planInVoid h e tag n)
+  in-void-formed e tag n f t =
+      let k = void-room a base h m n e f in
+      let u = same-used in
+      let r = used-range in
+      let i = same-alignment in
+      let g = headerSpan-le (remainder (e .«data_size») n) in
+      record {
+        low = k .0;
+        eights = k .1;
+        old = omega arith;
+        used = omega arith;
+        inside = omega arith;
+        padding = refl;
+        tag = t;
+        alignment = omega (arith, m .sound .header .sizes .most);
+        small = omega arith;
+      }
+
+  -- an entry at used_size, with room enough
+  pub at-end-formed : (padding alignment tag n : ℕ) → padding ≡ voidSpan padding → alignment < 256 → tag < 2 ^ 24
+      → padding + 8 + align8 n ≤ room a → WellFormed h (length a) n (planAtEnd h padding alignment tag n)
+  at-end-formed padding alignment tag n v z t f =
+      let u = same-used in
+      let r = used-range in
+      let s = m .sound .header .sizes in
+      record {
+        low = omega arith;
+        eights = rw u (s .used8);
+        old = omega arith;
+        used = omega arith;
+        inside = omega arith;
+        padding = v;
+        tag = t;
+        alignment = z;
+        small = omega arith;
+      }
+
+  -- a void in the place of an occurrence of a tag
+  pub void-formed : (tag n : ℕ) (e : Entry) → 0 < tag → occurrence tag n (entriesOf a) ≡ some e → WellFormed h (length a) 0 (planVoid h e)
+  void-formed tag n e t f =
+      let k = entry-room a base h m tag n e t f in
+      let u = same-used in
+      let r = used-range in
+      let i = same-alignment in
+      record {
+        low = k .0;
+        eights = k .1;
+        old = omega arith;
+        used = omega arith;
+        inside = omega arith;
+        padding = refl;
+        tag = omega arith;
+        alignment = omega (arith, m .sound .header .sizes .most);
+        small = omega arith;
+      }
+
+  -- without room the add at used_size is refused
+  pub no-room : (padding alignment tag : ℕ) (content : List ℕ) → h .«total_size» - h .«used_size» < padding + 8 + align8 (length content)
+      → endOutcome a padding alignment tag content ≡ refused Room
+  unfolding endOutcome
+  no-room padding alignment tag content l = rw (lt-ltb _ _ (rw same-room at l))
+
+  module _ (b : Bytes a) where
+    -- the first comes to the rule's add into that void
+    pub in-void-comes : (e : Entry) (tag : ℕ) (content : List ℕ)
+        → planned a content (planInVoid h e tag (length content)) ≡ addInVoid a tag content e
+    unfolding addInVoid
+    in-void-comes e tag content =
+        let x : List ℕ = entryBytes tag content ++ voidBehind (e .«data_size») (length content) in
+        rw (stretch-in-void h e tag content, same-used, same-alignment, in-place a (e .at) x b (m .sound .header .long))
+
+    -- the second to the add at used_size
+    pub at-end-comes : (padding alignment tag : ℕ) (content : List ℕ) → padding + 8 + align8 (length content) ≤ room a
+        → planned a content (planAtEnd h padding alignment tag (length content)) ≡ endOutcome a padding alignment tag content
+    unfolding endOutcome
+    at-end-comes padding alignment tag content f =
+        rw (stretch-at-end h padding alignment tag content, same-used, le-ltb (room a) (padding + 8 + align8 (length content)) f)
+
+    -- the third to the rule's void
+    pub void-comes : (e : Entry) → planned a [] (planVoid h e) ≡ voidAt a (some e)
+    void-comes e =
+        let x : List ℕ = voidBytes (align8 (e .«data_size»)) in
+        rw (stretch-void h e, same-used, same-alignment, in-place a (e .at) x b (m .sound .header .long))
+
+    -- an add at used_size has no padding and leaves the alignment
+    pub add-end : (tag : ℕ) (content : List ℕ) → addAtEnd a tag content ≡ endOutcome a 0 (h .alignment) tag content
+    unfolding addAtEnd endOutcome wholeVoid
+    add-end tag content =
+        let l : length (entryBytes tag content) ≡ align8 (8 + length content) = length-entryBytes tag content in
+        let n : 0 + 8 + align8 (length content) ≡ align8 (8 + length content) = omega arith in
+        let u : headerOf a .«used_size» + 0 + 8 ≡ headerOf a .«used_size» + 8 = omega arith in
+        let w : headerOf a .«used_size» + 0 + 8 + align8 (length content) ≡ headerOf a .«used_size» + length (entryBytes tag content) = omega arith in
+        let r = used-range in
+        rw (n, w, u, same-alignment, appended a (entryBytes tag content) b (r .0) (r .1))
 
 -- ---- the padding
 
@@ -323,10 +285,11 @@ module _ (base used exponent : ℕ) (h : 3 ≤ exponent) (b : base % 8 ≡ 0) (u
 
   -- and is written as the rule's padding void
   padding-whole : paddingVoid exponent ((base + used + 8) % 2 ^ exponent) ≡ wholeVoid (paddingFor base used exponent)
-  unfolding paddingVoid voidBytes paddingFor wholeVoid
+  unfolding paddingVoid paddingFor wholeVoid
   padding-whole = go (eqb ((base + used + 8) % 2 ^ exponent) 0) refl
     where
-      go : (t : Bool) → eqb ((base + used + 8) % 2 ^ exponent) 0 ≡ t → paddingVoid exponent ((base + used + 8) % 2 ^ exponent) ≡ wholeVoid (paddingFor base used exponent)
+      go : (t : Bool) → eqb ((base + used + 8) % 2 ^ exponent) 0 ≡ t
+          → paddingVoid exponent ((base + used + 8) % 2 ^ exponent) ≡ wholeVoid (paddingFor base used exponent)
       go true t = rw t
       go false t = rw (t, le-ltb _ 8 (padding-least t))
 
@@ -340,126 +303,20 @@ padding-small base used exponent h = go (eqb ((base + used + 8) % 2 ^ exponent) 
     go false t = let m : 2 ^ exponent ≤ 2 ^ maxAlignment = pow-mono h in rw t (omega arith)
 
 -- the aligned add at used_size has that padding and raises the alignment
-pub aligned-end : (a : List ℕ) (base tag : ℕ) (content : List ℕ) (exponent : ℕ) → Sound true a base → 3 ≤ exponent
-    → addAlignedAtEnd a base tag content exponent ≡ endOutcome a (paddingFor base (headerOf a .«used_size») exponent) (max (headerOf a .alignment) exponent) tag content
+pub aligned-end : (a : List ℕ) (base : ℕ) (h : Header) (tag : ℕ) (content : List ℕ) (exponent : ℕ) → Admitted a base h → 3 ≤ exponent
+    → addAlignedAtEnd a base tag content exponent
+    ≡ endOutcome a (paddingFor base (h .«used_size») exponent) (max (h .alignment) exponent) tag content
 unfolding addAlignedAtEnd alignedBytes endOutcome
-aligned-end a base tag content exponent s h =
+aligned-end a base h tag content exponent m k =
+    let s = m .sound .header in
     let u : ℕ = headerOf a .«used_size» in
     let q : ℕ = paddingFor base u exponent in
-    let w : paddingVoid exponent ((base + u + 8) % 2 ^ exponent) ≡ wholeVoid q = padding-whole base u exponent h (s .base8) (s .used8) in
-    let v : q ≡ voidSpan q = padding-span base u exponent h (s .base8) (s .used8) in
+    let w : paddingVoid exponent ((base + u + 8) % 2 ^ exponent) ≡ wholeVoid q = padding-whole base u exponent k (s .usable .base8) (s .sizes .used8) in
+    let v : q ≡ voidSpan q = padding-span base u exponent k (s .usable .base8) (s .sizes .used8) in
     let lv : length (wholeVoid q) ≡ q = length-wholeVoid q ∙ sym v in
     let le : length (entryBytes tag content) ≡ align8 (8 + length content) = length-entryBytes tag content in
     let new : List ℕ = wholeVoid q ++ entryBytes tag content in
-    let ln : length new ≡ q + (8 + align8 (length content)) = rw (length-append, lv, le) (omega arith) in
-    let low : 24 ≤ u = omega (arith, first-least true a base s, s .first) in
-    let top : u ≤ length a = omega (arith, s .used, s .total) in
+    let ln : length new ≡ q + 8 + align8 (length content) = rw (length-append, lv, le) (omega arith) in
     let sum : u + length new ≡ u + q + 8 + align8 (length content) = omega arith in
-    rw (w, ln, lv, appended-aligned a exponent new low top, sum)
-
--- ---- a void in the place of an entry
-
--- the bytes of the plan are the rule's
-stretch-void : (h : Header) (e : Entry) → stretchOf (planVoid h e) [] ≡ voidBytes (align8 (e .«data_size»))
-unfolding stretchOf planVoid voidBytes wholeVoid voidHeader
-stretch-void h e = simp append-nil
-
--- where an occurrence of a tag stands
-pub occurs-room : (a : List ℕ) (base tag n : ℕ) (e : Entry) → Sound true a base → occurrence tag n (entriesOf a) ≡ some e
-    → (24 ≤ e .at) × (e .at + (8 + align8 (e .«data_size»)) ≤ headerOf a .«used_size»)
-occurs-room a base tag n e s o =
-    let i = occurs-inside true a base s tag n e o in
-    (omega (arith, first-least true a base s), omega arith)
-
--- the plan of a void comes to the rule's void
-pub void-plan : (a : List ℕ) (base : ℕ) (h : Header) (tag n : ℕ) (e : Entry) → Admitted a base h → Bytes a → occurrence tag n (entriesOf a) ≡ some e
-    → Decides a [] (voidAt a (some e)) (Go (withChecksum a [] (planVoid h e)))
-unfolding planVoid
-void-plan a base h tag n e m b f =
-    let s : Sound true a base = m .sound in
-    let r = occurs-room a base tag n e s f in
-    let p : Plan = planVoid h e in
-    let x : List ℕ = voidBytes (align8 (e .«data_size»)) in
-    let w : stretchOf p [] ≡ x = stretch-void h e in
-    let l : length (stretchOf p []) ≡ voidSpan 0 + (8 + (0 + (align8 (e .«data_size») + headerSpan 0))) = length-stretchOf p [] in
-    let u : h .«used_size» ≡ headerOf a .«used_size» = ap (λ (y : Header). y .«used_size») (m .header) in
-    let i : h .alignment ≡ headerOf a .alignment = ap (λ (y : Header). y .alignment) (m .header) in
-    let top : headerOf a .«used_size» ≤ length a = omega (arith, s .used, s .total) in
-    let d = sealed a [] base p s b (record {
-      low = r .0;
-      old = omega arith;
-      new = omega arith;
-      inside = omega arith;
-      padding = refl;
-      tag = omega arith;
-      small = omega (arith, s .most);
-    }) in
-    let o : done (e .at) (seal (edited a (h .alignment) (h .«used_size») (e .at) (stretchOf p []))) ≡ voidAt a (some e) =
-    rw (w, u, i, in-place a (e .at) x b (s .long)) in
-    subst (λ (y : Outcome). Decides a [] y (Go (withChecksum a [] p))) o d
-
--- and its checksum can be worked out
-pub occurs-asks : (a : List ℕ) (base : ℕ) (h : Header) (tag n : ℕ) (e : Entry) → Admitted a base h → occurrence tag n (entriesOf a) ≡ some e → Asked a h (planVoid h e)
-unfolding planVoid
-occurs-asks a base h tag n e m f =
-    let s : Sound true a base = m .sound in
-    let r = occurs-room a base tag n e s f in
-    let u = same-sizes a base h m in
-    let top : headerOf a .«used_size» ≤ length a = omega (arith, s .used, s .total) in
-    let near : length a ≤ maxLength = s .short in
-    (m .header, omega arith, omega arith, record { padding = omega arith; zeros = omega arith; behind = omega arith; tag = omega arith })
-
--- ---- the table of data lengths
-
--- the lengths from least to most are those that a row of the rule allows
-abbrev pub Spans : Lengths → ℕ → ℕ → Type 0
-Spans any least most = (least ≡ 0) × (most ≡ 2 ^ 64 - 1)
-Spans (exactly k) least most = (least ≡ k) × (most ≡ k)
-
--- a length that a slice can have is outside them where the rule does not allow it
-outside-span : (l : Lengths) (least most n : ℕ) → Spans l least most → n < 2 ^ 64 → (ltb n least || ltb most n) ≡ not (allows l n)
-outside-span any least most n s f = rw (le-ltb n least (omega arith), le-ltb most n (omega arith))
-outside-span (exactly k) least most n s f = go (eqb n k) refl
-  where
-    go : (t : Bool) → eqb n k ≡ t → (ltb n least || ltb most n) ≡ not t
-    go true t =
-        let e : n ≡ k = eqb-true n k t in
-        rw (le-ltb n least (omega arith), le-ltb most n (omega arith))
-    go false t = less (ltb n least) refl
-      where
-        less : (x : Bool) → ltb n least ≡ x → (x || ltb most n) ≡ true
-        less true x = refl
-        less false x =
-            let d = eqb-false n k t in
-            let g : least ≤ n = ltb-false n least x in
-            lt-ltb most n (omega (arith, d))
-
--- the code's rows say what the rule's rows say
-abbrev pub Alike : List TagRow → List rule.TagRow → Type 0
-Alike [] [] = Unit
-Alike [] (y ∷ ys) = ⊥
-Alike (x ∷ xs) [] = ⊥
-Alike (x ∷ xs) (y ∷ ys) = (x .tag ≡ y .tag) × Spans (y .lengths) (x .least) (x .most) × Alike xs ys
-
--- a row with the tag decides
-pub row-hit : (xs : List TagRow) (ys : List rule.TagRow) (d : TagRow) (i tag n : ℕ) → Alike xs ys → i < length xs → n < 2 ^ 64 → getD xs i d .tag ≡ tag
-    → (ltb n (getD xs i d .least) || ltb (getD xs i d .most) n) ≡ not (allowedIn (drop i ys) tag n)
-unfolding allowedIn
-row-hit [] ys d i tag n k h f t = absurd (omega arith)
-row-hit (x ∷ xs) [] d i tag n k h f t = absurd k
-row-hit (x ∷ xs) (y ∷ ys) d zero tag n k h f t =
-    rw (eq-eqb (y .tag) tag (sym (k .0) ∙ t)) (outside-span (y .lengths) (x .least) (x .most) n (k .1) f)
-row-hit (x ∷ xs) (y ∷ ys) d (suc i) tag n k h f t = row-hit xs ys d i tag n (k .2) (omega arith) f t
-
--- a row with another tag is passed
-pub row-miss : (xs : List TagRow) (ys : List rule.TagRow) (d : TagRow) (i tag n : ℕ) → Alike xs ys → i < length xs → (getD xs i d .tag ≡ tag → ⊥)
-    → allowedIn (drop i ys) tag n ≡ allowedIn (drop (i + 1) ys) tag n
-unfolding allowedIn
-row-miss xs ys d i tag n k h t = rw add-one (go xs ys i k h t)
-  where
-    go : (xs : List TagRow) (ys : List rule.TagRow) (i : ℕ) → Alike xs ys → i < length xs → (getD xs i d .tag ≡ tag → ⊥)
-        → allowedIn (drop i ys) tag n ≡ allowedIn (drop (suc i) ys) tag n
-    go [] ys i k h t = absurd (omega arith)
-    go (x ∷ xs) [] i k h t = absurd k
-    go (x ∷ xs) (y ∷ ys) zero k h t = rw (ne-eqb (y .tag) tag (λ e. t (k .0 ∙ e)))
-    go (x ∷ xs) (y ∷ ys) (suc i) k h t = go xs ys i (k .2) (omega arith) t
+    let r = used-range a base h m in
+    rw (same-used a base h m, same-alignment a base h m, w, ln, lv, appended-aligned a exponent new (r .0) (r .1), sum)

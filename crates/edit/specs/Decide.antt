@@ -1,7 +1,6 @@
--- The plans of the edits, and what a decision has to say.
-use mathlib.Core.Path.{_≡_}
+-- The plans of the edits, and what both adds come to.
 use Prim.Native.Nat.{ℕ, _+_, _-_, _%_, _^_}
-use mathlib.Core.Bool.{cond}
+use mathlib.Core.Bool.{Bool, cond}
 use mathlib.Core.List.{List, _++_}
 use lib.ListN.{length}
 use lib.Dec.{ltb, eqb}
@@ -12,15 +11,13 @@ use Rattle.rules.specs.Area.{align8}
 use Rattle.rules.specs.Header.{headerOf}
 use Rattle.rules.specs.Checksum.{seal}
 use Rattle.rules.specs.Outcome.{Outcome, refused, done}
-use Rattle.rules.specs.Add.{entryBytes, room, remainder}
+use Rattle.rules.specs.Add.{entryBytes, room, remainder, takenVoid, addAt}
 use Rattle.laws.proofs.Patch.{edited}
 use Rattle.plan.specs.declared.Plan.{Plan}
-use Rattle.plan.specs.declared.Planned.{Planned}
-use Rattle.plan.specs.declared.Planned.the-variants.{Go, Refused}
-use Rattle.plan.specs.Plan.{wholeVoid, outcomeOf, Writable}
+use Rattle.plan.specs.Plan.{wholeVoid}
 
 -- the entry in the place of a void; what is left of the void follows as a void of its own
-unfoldable pub planInVoid : Header → Entry → ℕ → ℕ → Plan
+abbrev pub planInVoid : Header → Entry → ℕ → ℕ → Plan
 planInVoid h e tag n =
     record {
       value = e .at + 8;
@@ -36,7 +33,7 @@ planInVoid h e tag n =
     }
 
 -- the entry at used_size, behind a padding void of so many bytes
-unfoldable pub planAtEnd : Header → ℕ → ℕ → ℕ → ℕ → Plan
+abbrev pub planAtEnd : Header → ℕ → ℕ → ℕ → ℕ → Plan
 planAtEnd h padding alignment tag n =
     record {
       value = h .«used_size» + padding + 8;
@@ -52,7 +49,7 @@ planAtEnd h padding alignment tag n =
     }
 
 -- a void in the place of an entry
-unfoldable pub planVoid : Header → Entry → Plan
+abbrev pub planVoid : Header → Entry → Plan
 planVoid h e =
     record {
       value = e .at;
@@ -75,18 +72,12 @@ paddingFor base used exponent =
 -- an entry at used_size behind a padding void, with a new alignment: what both adds come to there
 unfoldable pub endOutcome : List ℕ → ℕ → ℕ → ℕ → List ℕ → Outcome
 endOutcome a padding alignment tag content =
-    cond (ltb (room a) (padding + (8 + align8 (length content)))) (refused Room)
+    cond (ltb (room a) (padding + 8 + align8 (length content))) (refused Room)
     (done (headerOf a .«used_size» + padding + 8)
     (seal
     (edited a alignment (headerOf a .«used_size» + padding + 8 + align8 (length content)) (headerOf a .«used_size»)
     (wholeVoid padding ++ entryBytes tag content))))
 
--- a plan that is to be written can be
-abbrev pub CanWrite : List ℕ → List ℕ → Planned → Type 0
-CanWrite a content (Go p) = Writable p (length a) (length content)
-CanWrite a content (Refused r) = Unit
-
--- a decision comes to the outcome o
-pub record Decides (a content : List ℕ) (o : Outcome) (r : Planned) : Type 0 where
-  pub comes : outcomeOf a content r ≡ o
-  pub writable : CanWrite a content r
+-- where an add goes, if voids may be used
+abbrev pub addPlace : List ℕ → ℕ → List ℕ → Bool → Outcome
+addPlace a tag content useVoids = addAt a tag content (takenVoid useVoids (length content) a)

@@ -1,4 +1,3 @@
-// The calls that write: add, add aligned and void. An edit first decides, reading only, then writes.
-pub mod decide;
+// Add, add aligned and void. An edit first decides, reading only, then what it has decided is carried out.
+mod decide;
 pub mod edits;
-pub mod tags;

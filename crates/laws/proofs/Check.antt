@@ -15,9 +15,21 @@ use Rattle.rules.specs.declared.Checked.{Checked}
 use Rattle.rules.specs.declared.Checked.the-variants.{Accepted, Refused}
 use Rattle.rules.specs.declared.Refusal.{Refusal}
 use Rattle.rules.specs.Area.{multiple8, usable, maxLength, maxAlignment, maxAddress}
-use Rattle.rules.specs.Header.{headerOf, headerSize, currentVersion, leastAlignment, signature}
-use Rattle.rules.specs.Entries.{Walk, entries, broken, wrongHeaderSize, firstEntry, walk, seen, entriesOf, liveCount, voidCount, occurrence}
-use Rattle.rules.specs.Checksum.{checksumHolds}
+use Rattle.rules.specs.Header.{headerOf, currentVersion, leastAlignment}
+use Rattle.rules.specs.Edition.{Edition, current}
+use Rattle.rules.specs.Entries.{
+  Walk,
+  entries,
+  broken,
+  wrongHeaderSize,
+  firstEntry,
+  walk,
+  seen,
+  entriesOf,
+  liveCount,
+  voidCount,
+  occurrence,
+}
 use Rattle.rules.specs.Refusals.{
   refusesArea,
   refusesShort,
@@ -29,11 +41,11 @@ use Rattle.rules.specs.Refusals.{
   refusesChecksum,
   refusesTag,
 }
-use Rattle.rules.specs.Check.{walked, checks, check}
-use Rattle.rules.specs.declared.Refusal.the-variants.{Tag}
+use Rattle.rules.specs.Check.{walked, fieldsRefusal, headerRefusal, unless, checksOf, check}
+use Rattle.rules.specs.declared.Refusal.the-variants.{Checksum, Tag}
 use Rattle.rules.specs.declared.Found.the-variants as found
 use Rattle.rules.specs.Find.{foundAt, afterCheck, find}
-use Rattle.laws.proofs.Walk.{header-least, or-false, All, Inside, walk-inside, occurrence-inside}
+use Rattle.laws.proofs.Walk.{header-least, neither, All, Inside, walk-inside, occurrence-inside}
 
 -- ---- tests
 
@@ -47,9 +59,22 @@ pub past : {A : Type 0} (b : Bool) (x y z : A) → (x ≡ z → ⊥) → cond b 
 past true x y z n h = absurd (n h)
 past false x y z n h = (refl, h)
 
--- what sizes that are not refused keep to
-pub record Sizes (h : Header) (len : ℕ) : Type 0 where
-  pub header : wrongHeaderSize (h .version) headerSize (h .«hdr_size») ≡ false
+-- what a usable area keeps to
+pub record Usable (base len : ℕ) : Type 0 where
+  pub base8 : base % 8 ≡ 0
+  pub reach : base + len ≤ maxAddress
+  pub short : len ≤ maxLength
+
+-- an area that is not refused keeps to all of it
+pub usable-of : (base len : ℕ) → refusesArea base len ≡ false → Usable base len
+usable-of base len r =
+    let u = both-true (multiple8 base && leb (base + len) maxAddress) (leb len maxLength) (not-false (usable base len) r) in
+    let b = both-true (multiple8 base) (leb (base + len) maxAddress) (u .0) in
+    record { base8 = eqb-true _ _ (b .0); reach = leb-true _ _ (b .1); short = leb-true _ _ (u .1) }
+
+-- what sizes that are not refused keep to, own being the edition's header size
+pub record Sizes (own : ℕ) (h : Header) (len : ℕ) : Type 0 where
+  pub header : wrongHeaderSize (h .version) own (h .«hdr_size») ≡ false
   pub least : leastAlignment ≤ h .alignment
   pub most : h .alignment ≤ maxAlignment
   pub used8 : h .«used_size» % 8 ≡ 0
@@ -59,15 +84,21 @@ pub record Sizes (h : Header) (len : ℕ) : Type 0 where
   pub total : h .«total_size» ≤ len
 
 -- sizes that are not refused keep to all of it
-pub sizes : (h : Header) (len : ℕ) → refusesSizes h len ≡ false → Sizes h len
-sizes h len r =
-    let p₁ = or-false (w || o || not u₈ || not t₈ || f || u) t r in
-    let p₂ = or-false (w || o || not u₈ || not t₈ || f) u (p₁ .0) in
-    let p₃ = or-false (w || o || not u₈ || not t₈) f (p₂ .0) in
-    let p₄ = or-false (w || o || not u₈) (not t₈) (p₃ .0) in
-    let p₅ = or-false (w || o) (not u₈) (p₄ .0) in
-    let p₆ = or-false w o (p₅ .0) in
-    let p₇ = or-false (ltb (h .alignment) leastAlignment) (ltb maxAlignment (h .alignment)) (p₆ .1) in
+sizes-of : (ed : Edition) (h : Header) (len : ℕ) → refusesSizes ed h len ≡ false → Sizes (ed .headerSize) h len
+sizes-of ed h len r =
+    let w : Bool = wrongHeaderSize (h .version) (ed .headerSize) (h .«hdr_size») in
+    let o : Bool = outsideAlignment (h .alignment) in
+    let u₈ : Bool = multiple8 (h .«used_size») in
+    let t₈ : Bool = multiple8 (h .«total_size») in
+    let f : Bool = ltb (h .«used_size») (firstEntry h) in
+    let u : Bool = ltb (h .«total_size») (h .«used_size») in
+    let p₁ = neither (w || o || not u₈ || not t₈ || f || u) (ltb len (h .«total_size»)) r in
+    let p₂ = neither (w || o || not u₈ || not t₈ || f) u (p₁ .0) in
+    let p₃ = neither (w || o || not u₈ || not t₈) f (p₂ .0) in
+    let p₄ = neither (w || o || not u₈) (not t₈) (p₃ .0) in
+    let p₅ = neither (w || o) (not u₈) (p₄ .0) in
+    let p₆ = neither w o (p₅ .0) in
+    let p₇ = neither (ltb (h .alignment) leastAlignment) (ltb maxAlignment (h .alignment)) (p₆ .1) in
     record {
       header = p₆ .0;
       least = ltb-false _ _ (p₇ .0);
@@ -78,44 +109,10 @@ sizes h len r =
       used = ltb-false _ _ (p₂ .1);
       total = ltb-false _ _ (p₁ .1);
     }
-  where
-    w : Bool
-    w = wrongHeaderSize (h .version) headerSize (h .«hdr_size»)
-
-    o : Bool
-    o = outsideAlignment (h .alignment)
-
-    u₈ : Bool
-    u₈ = multiple8 (h .«used_size»)
-
-    t₈ : Bool
-    t₈ = multiple8 (h .«total_size»)
-
-    f : Bool
-    f = ltb (h .«used_size») (firstEntry h)
-
-    u : Bool
-    u = ltb (h .«total_size») (h .«used_size»)
-
-    t : Bool
-    t = ltb len (h .«total_size»)
-
--- sizes that keep to all of it are not refused
-sizes-hold : (h : Header) (len : ℕ) → Sizes h len → refusesSizes h len ≡ false
-sizes-hold h len s =
-    simp (
-      s .header,
-      le-ltb _ _ (s .least),
-      le-ltb _ _ (s .most),
-      eq-eqb _ _ (s .used8),
-      eq-eqb _ _ (s .total8),
-      le-ltb _ _ (s .first),
-      le-ltb _ _ (s .used),
-      le-ltb _ _ (s .total),
-    )
 
 -- an edit that is not refused is of a list of version 1
-current-of : (editing : Bool) (version : ℕ) → (editing && ltb currentVersion version) ≡ false → (version ≡ 0 → ⊥) → editing ≡ true → version ≡ currentVersion
+current-of : (editing : Bool) (version : ℕ) → (editing && ltb currentVersion version) ≡ false → (version ≡ 0 → ⊥) → editing ≡ true
+    → version ≡ currentVersion
 current-of true version h n e =
     let l : version ≤ currentVersion = ltb-false currentVersion version h in
     omega (arith, n)
@@ -126,26 +123,67 @@ current-holds : (editing : Bool) (version : ℕ) → (editing ≡ true → versi
 current-holds true version h = let e : version ≡ currentVersion = h refl in le-ltb currentVersion version (omega arith)
 current-holds false version h = refl
 
+-- ---- checks 1 to 6
+
+-- everything that they tell of a header at a base in an area of len bytes
+pub record SoundHeader (ed : Edition) (base len : ℕ) (h : Header) : Type 0 where
+  pub usable : Usable base len
+  pub long : ed .headerSize ≤ len
+  pub signed : h .signature ≡ ed .signature
+  pub versioned : h .version ≡ 0 → ⊥
+  pub sizes : Sizes (ed .headerSize) h len
+
+module _ (ed : Edition) (editing : Bool) (base len : ℕ) (h : Header) where
+  -- what a header that is not refused tells; of an edit also that the version is 1
+  pub header-sound : headerRefusal ed editing base len h ≡ none → SoundHeader ed base len h × (editing ≡ true → h .version ≡ currentVersion)
+  unfolding headerRefusal fieldsRefusal
+  header-sound k =
+      let never : (r : Refusal) → some r ≡ none → ⊥ = λ r e. (let z : _≡_ {A = ℕ} 0 1 = cc in omega arith) in
+      let p₁ = past (refusesArea base len) _ _ _ (never _) k in
+      let p₂ = past (refusesShort ed len) _ _ _ (never _) (p₁ .1) in
+      let p₃ = past (refusesSignature ed h) _ _ _ (never _) (p₂ .1) in
+      let p₄ = past (refusesVersion h) _ _ _ (never _) (p₃ .1) in
+      let p₅ = past (refusesReadonly editing h) _ _ _ (never _) (p₄ .1) in
+      let p₆ = past (refusesSizes ed h len) _ _ _ (never _) (p₅ .1) in
+      let n = eqb-false (h .version) 0 (p₄ .0) in (
+        record {
+          usable = usable-of base len (p₁ .0);
+          long = ltb-false _ _ (p₂ .0);
+          signed = eqb-true _ _ (not-false _ (p₃ .0));
+          versioned = n;
+          sizes = sizes-of ed h len (p₆ .0);
+        },
+        current-of editing (h .version) (p₅ .0) n,
+      )
+
+  -- and a header that keeps to all of it is not refused
+  pub header-passes : SoundHeader ed base len h → (editing ≡ true → h .version ≡ currentVersion) → headerRefusal ed editing base len h ≡ none
+  unfolding headerRefusal fieldsRefusal
+  header-passes s v =
+      simp (
+        eq-eqb _ _ (s .usable .base8),
+        le-leb _ _ (s .usable .reach),
+        le-leb _ _ (s .usable .short),
+        le-ltb _ _ (s .long),
+        eq-eqb _ _ (s .signed),
+        ne-eqb _ _ (s .versioned),
+        current-holds editing _ v,
+        s .sizes .header,
+        le-ltb _ _ (s .sizes .least),
+        le-ltb _ _ (s .sizes .most),
+        eq-eqb _ _ (s .sizes .used8),
+        eq-eqb _ _ (s .sizes .total8),
+        le-ltb _ _ (s .sizes .first),
+        le-ltb _ _ (s .sizes .used),
+        le-ltb _ _ (s .sizes .total),
+      )
+
 -- ---- the check
 
--- everything that an accepted check tells of a list at a base; editing says that it was the admission to an edit
-pub record Sound (editing : Bool) (a : List ℕ) (base : ℕ) : Type 0 where
-  pub base8 : base % 8 ≡ 0
-  pub reach : base + length a ≤ maxAddress
-  pub short : length a ≤ maxLength
-  pub long : headerSize ≤ length a
-  pub signed : headerOf a .signature ≡ signature
-  pub versioned : headerOf a .version ≡ 0 → ⊥
-  pub current : editing ≡ true → headerOf a .version ≡ currentVersion
-  pub header : wrongHeaderSize (headerOf a .version) headerSize (headerOf a .«hdr_size») ≡ false
-  pub least : leastAlignment ≤ headerOf a .alignment
-  pub most : headerOf a .alignment ≤ maxAlignment
-  pub used8 : headerOf a .«used_size» % 8 ≡ 0
-  pub total8 : headerOf a .«total_size» % 8 ≡ 0
-  pub first : firstEntry (headerOf a) ≤ headerOf a .«used_size»
-  pub used : headerOf a .«used_size» ≤ headerOf a .«total_size»
-  pub total : headerOf a .«total_size» ≤ length a
-  pub summed : checksumHolds a ≡ true
+-- everything that an accepted check of an edition's list tells
+pub record Sound (ed : Edition) (a : List ℕ) (base : ℕ) : Type 0 where
+  pub header : SoundHeader ed base (length a) (headerOf a)
+  pub summed : ed .summed a ≡ true
   pub row : List Entry
   pub walked : walk a ≡ entries row
 
@@ -162,64 +200,39 @@ factsOf h es =
     }
 
 -- an accepted walk is not broken
-unbroken : (h : Header) (w : Walk) (f : Facts) → walked h w ≡ Accepted f → w ≡ entries (seen w)
-unbroken h (entries es) f k = refl
-unbroken h (broken at) f k = absurd (let z : _≡_ {A = ℕ} 0 1 = cc in omega arith)
+accepted-walk : (h : Header) (w : Walk) (f : Facts) → walked h w ≡ Accepted f → w ≡ entries (seen w)
+accepted-walk h (entries es) f k = refl
+accepted-walk h (broken at) f k = absurd (let z : _≡_ {A = ℕ} 0 1 = cc in omega arith)
 
--- what an accepted check tells
-pub sound : (editing : Bool) (a : List ℕ) (base : ℕ) (f : Facts) → checks editing a base ≡ Accepted f → Sound editing a base
-unfolding checks
-sound editing a base f k =
-    let never : (r : Refusal) → Refused r ≡ Accepted f → ⊥ = λ r e. (let z : _≡_ {A = ℕ} 0 1 = cc in omega arith) in
-    let p₁ = past (refusesArea base (length a)) _ _ _ (never _) k in
-    let p₂ = past (refusesShort (length a)) _ _ _ (never _) (p₁ .1) in
-    let p₃ = past (refusesSignature (headerOf a)) _ _ _ (never _) (p₂ .1) in
-    let p₄ = past (refusesVersion (headerOf a)) _ _ _ (never _) (p₃ .1) in
-    let p₅ = past (refusesReadonly editing (headerOf a)) _ _ _ (never _) (p₄ .1) in
-    let p₆ = past (refusesSizes (headerOf a) (length a)) _ _ _ (never _) (p₅ .1) in
-    let p₇ = past (refusesChecksum a) _ _ _ (never _) (p₆ .1) in
-    let u = both-true (multiple8 base && leb (base + length a) maxAddress) (leb (length a) maxLength) (not-false (usable base (length a)) (p₁ .0)) in
-    let b = both-true (multiple8 base) (leb (base + length a) maxAddress) (u .0) in
-    let s : Sizes (headerOf a) (length a) = sizes (headerOf a) (length a) (p₆ .0) in
-    let n = eqb-false (headerOf a .version) 0 (p₄ .0) in
-    record {
-      base8 = eqb-true _ _ (b .0);
-      reach = leb-true _ _ (b .1);
-      short = leb-true _ _ (u .1);
-      long = ltb-false _ _ (p₂ .0);
-      signed = eqb-true _ _ (not-false _ (p₃ .0));
-      versioned = n;
-      current = current-of editing (headerOf a .version) (p₅ .0) n;
-      header = s .header;
-      least = s .least;
-      most = s .most;
-      used8 = s .used8;
-      total8 = s .total8;
-      first = s .first;
-      used = s .used;
-      total = s .total;
-      summed = not-false (checksumHolds a) (p₇ .0);
-      row = seen (walk a);
-      walked = unbroken (headerOf a) (walk a) f (p₇ .1);
-    }
+-- the answer behind a refusal that did not come
+not-refused : (o : Option Refusal) (x : Checked) (f : Facts) → unless o x ≡ Accepted f → (o ≡ none) × (x ≡ Accepted f)
+not-refused (some r) x f k = absurd (let z : _≡_ {A = ℕ} 0 1 = cc in omega arith)
+not-refused none x f k = (refl, k)
 
--- a list that keeps to all of it is accepted
-pub accepts : (editing : Bool) (a : List ℕ) (base : ℕ) (s : Sound editing a base) → checks editing a base ≡ Accepted (factsOf (headerOf a) (s .row))
-unfolding checks
-accepts editing a base s =
-    let z : Sizes (headerOf a) (length a) = record { header = s .header; least = s .least; most = s .most; used8 = s .used8; total8 = s .total8; first = s .first; used = s .used; total = s .total } in
-    simp (
-      eq-eqb _ _ (s .base8),
-      le-leb _ _ (s .reach),
-      le-leb _ _ (s .short),
-      le-ltb _ _ (s .long),
-      eq-eqb _ _ (s .signed),
-      ne-eqb _ _ (s .versioned),
-      current-holds editing _ (s .current),
-      sizes-hold _ _ z,
-      s .summed,
-      s .walked,
-    )
+module _ (ed : Edition) (editing : Bool) (a : List ℕ) (base : ℕ) where
+  -- what an accepted check tells; of an admission to an edit also that the version is 1
+  pub sound : (f : Facts) → checksOf ed editing a base ≡ Accepted f
+      → Sound ed a base × (editing ≡ true → headerOf a .version ≡ currentVersion)
+  unfolding checksOf
+  sound f k =
+      let never : Refused Checksum ≡ Accepted f → ⊥ = λ e. (let z : _≡_ {A = ℕ} 0 1 = cc in omega arith) in
+      let p = not-refused (headerRefusal ed editing base (length a) (headerOf a)) _ f k in
+      let q = past (refusesChecksum ed a) _ _ _ never (p .1) in
+      let s = header-sound ed editing base (length a) (headerOf a) (p .0) in (
+        record {
+          header = s .0;
+          summed = not-false (ed .summed a) (q .0);
+          row = seen (walk a);
+          walked = accepted-walk (headerOf a) (walk a) f (q .1);
+        },
+        s .1,
+      )
+
+  -- a list that keeps to all of it is accepted
+  pub accepts : (s : Sound ed a base) → (editing ≡ true → headerOf a .version ≡ currentVersion)
+      → checksOf ed editing a base ≡ Accepted (factsOf (headerOf a) (s .row))
+  unfolding checksOf
+  accepts s v = simp (header-passes ed editing base (length a) (headerOf a) (s .header) v, s .summed, s .walked)
 
 -- the entries of a list are those of its walk
 pub entries-row : (a : List ℕ) (row : List Entry) → walk a ≡ entries row → entriesOf a ≡ row
@@ -228,51 +241,59 @@ entries-row a row h = ap seen h
 
 -- ---- the entries of an accepted list
 
-module _ (editing : Bool) (a : List ℕ) (base : ℕ) (s : Sound editing a base) where
+module _ (ed : Edition) (a : List ℕ) (base : ℕ) (s : Sound ed a base) where
   -- each entry lies behind the header and before used_size
   pub row-inside : All (Inside (firstEntry (headerOf a)) (headerOf a .«used_size»)) (s .row)
   unfolding walk
   row-inside = walk-inside (headerOf a .version) a (headerOf a .«used_size») (firstEntry (headerOf a)) (s .row) (s .walked)
 
   -- so does each occurrence of a tag
-  pub occurs-inside : (tag n : ℕ) (e : Entry) → occurrence tag n (entriesOf a) ≡ some e → Inside (firstEntry (headerOf a)) (headerOf a .«used_size») e
-  occurs-inside tag n e h =
-      occurrence-inside _ tag n (s .row) e row-inside (ap (occurrence tag n) (sym (entries-row a (s .row) (s .walked))) ∙ h)
+  pub occurs-inside : (tag n : ℕ) (e : Entry) → occurrence tag n (entriesOf a) ≡ some e
+      → Inside (firstEntry (headerOf a)) (headerOf a .«used_size») e
+  occurs-inside tag n e h = occurrence-inside _ tag n (s .row) e row-inside (ap (occurrence tag n) (sym (entries-row a (s .row) (s .walked))) ∙ h)
 
 -- the data that find answers lies within the area
 pub find-within : (a : List ℕ) (base tag n offset size : ℕ) → find a base tag n ≡ found.At offset size → offset + size ≤ length a
 unfolding find
 find-within a base tag n offset size h = go (check a base) refl h
   where
-    at-entry : (s : Sound false a base) (o : Option Entry) → occurrence tag n (entriesOf a) ≡ o → foundAt o ≡ found.At offset size → offset + size ≤ length a
+    at-entry : (s : Sound current a base) (o : Option Entry) → occurrence tag n (entriesOf a) ≡ o → foundAt o ≡ found.At offset size → offset + size ≤ length a
     at-entry s (some e) p k =
-        let i = occurs-inside false a base s tag n e p in
+        let i = occurs-inside current a base s tag n e p in
         let x : e .at + e .«hdr_size» ≡ offset = cc in
         let y : e .«data_size» ≡ size = cc in
         omega arith
     at-entry s none p k = absurd (let z : _≡_ {A = ℕ} 0 1 = cc in omega arith)
 
-    go : (c : Checked) → check a base ≡ c → afterCheck c (cond (refusesTag tag) (found.Refused Tag) (foundAt (occurrence tag n (entriesOf a)))) ≡ found.At offset size → offset + size ≤ length a
+    go : (c : Checked) → check a base ≡ c
+        → afterCheck c (cond (refusesTag tag) (found.Refused Tag) (foundAt (occurrence tag n (entriesOf a)))) ≡ found.At offset size
+        → offset + size ≤ length a
     go (Accepted f) p k =
         let never : found.Refused Tag ≡ found.At offset size → ⊥ = λ e. (let z : _≡_ {A = ℕ} 0 1 = cc in omega arith) in
-        at-entry (sound false a base f p) (occurrence tag n (entriesOf a)) refl (past (refusesTag tag) _ _ _ never k .1)
+        at-entry (sound current false a base f p .0) (occurrence tag n (entriesOf a)) refl (past (refusesTag tag) _ _ _ never k .1)
     go (Refused r) p k = absurd (let z : _≡_ {A = ℕ} 0 1 = cc in omega arith)
 
 -- ---- the sizes of an accepted list
 
-module _ (editing : Bool) (a : List ℕ) (base : ℕ) (s : Sound editing a base) where
+module _ (ed : Edition) (a : List ℕ) (base : ℕ) (s : Sound ed a base) where
   -- its entries start behind a header's bytes
-  pub first-least : headerSize ≤ firstEntry (headerOf a)
+  pub first-least : ed .headerSize ≤ firstEntry (headerOf a)
   first-least =
-      let k : headerSize ≤ headerOf a .«hdr_size» = header-least (headerOf a .version) headerSize (headerOf a .«hdr_size») (s .header) in
+      let z = s .header .sizes in
+      let k : ed .headerSize ≤ headerOf a .«hdr_size» = header-least (headerOf a .version) (ed .headerSize) _ (z .header) in
       omega arith
 
   -- and its used bytes are no fewer
-  pub used-least : headerSize ≤ headerOf a .«used_size»
-  used-least = omega (arith, first-least, s .first)
+  pub used-least : ed .headerSize ≤ headerOf a .«used_size»
+  used-least = omega (arith, first-least, s .header .sizes .first)
+
+  -- and lie within the area
+  pub used-most : headerOf a .«used_size» ≤ length a
+  used-most = omega (arith, s .header .sizes .used, s .header .sizes .total)
 
 -- ---- a list that is admitted to an edit, with its header
 
 pub record Admitted (a : List ℕ) (base : ℕ) (h : Header) : Type 0 where
   pub header : h ≡ headerOf a
-  pub sound : Sound true a base
+  pub sound : Sound current a base
+  pub version : headerOf a .version ≡ currentVersion

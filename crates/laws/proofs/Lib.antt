@@ -1,3 +1,19 @@
+-- Laws of the written rules, in the order of these lines.
 pub mod Walk
 pub mod Check
+pub mod Passed
+pub mod Row
+pub mod Lists
+pub mod Xor
+pub mod EntryBytes
+pub mod FreshList
+pub mod Live
+pub mod Power
+pub mod NewBase
+pub mod Differs
+pub mod Seal
+pub mod Ready
+pub mod Written
+pub mod Change
 pub mod Patch
+pub mod Moved

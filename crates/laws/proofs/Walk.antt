@@ -9,16 +9,28 @@ use lib.Dec.{ltb, eqb}
 use borrow.Author.Tests.{eq-eqb, ne-eqb, eqb-true, ltb-false}
 use Rattle.rules.specs.declared.Entry.{Entry}
 use Rattle.rules.specs.Header.{entryHeaderSize}
-use Rattle.rules.specs.Entries.{Walk, entries, broken, follow, entryAt, span, wrongHeaderSize, badEntry, walkIn, walkFrom, occurrence}
+use Rattle.rules.specs.Entries.{
+  Walk,
+  entries,
+  broken,
+  follow,
+  entryAt,
+  span,
+  wrongHeaderSize,
+  badEntry,
+  walkIn,
+  walkFrom,
+  occurrence,
+}
 
 -- ---- tests
 
 -- neither of two tests holds
-pub or-false : (x y : Bool) → (x || y) ≡ false → (x ≡ false) × (y ≡ false)
-or-false true y h = absurd (let z : _≡_ {A = ℕ} 0 1 = cc in omega arith)
-or-false false y h = (refl, h)
+pub neither : (x y : Bool) → (x || y) ≡ false → (x ≡ false) × (y ≡ false)
+neither true y h = absurd (let z : _≡_ {A = ℕ} 0 1 = cc in omega arith)
+neither false y h = (refl, h)
 
--- a header size that is not wrong is at least the own one
+-- a header size that is not wrong is at least `own`
 pub header-least : (version own size : ℕ) → wrongHeaderSize version own size ≡ false → own ≤ size
 header-least version own size h = go (eqb version 1) (eqb size own) refl refl h
   where
@@ -28,14 +40,15 @@ header-least version own size h = go (eqb version 1) (eqb size own) refl refl h
     go false s p q k = ltb-false size own k
 
 -- what an entry that breaks no rule keeps to
-pub record Good (left : ℕ) (e : Entry) : Type 0 where
+pub record Bounded (left : ℕ) (e : Entry) : Type 0 where
   pub least : entryHeaderSize ≤ e .«hdr_size»
   pub fits : span e ≤ left
 
-pub good : (version left : ℕ) (e : Entry) → badEntry version left e ≡ false → Good left e
-good version left e h =
-    let p = or-false (wrongHeaderSize version entryHeaderSize (e .«hdr_size») || ltb left (span e)) _ h in
-    let q = or-false (wrongHeaderSize version entryHeaderSize (e .«hdr_size»)) (ltb left (span e)) (p .0) in
+-- such an entry does
+pub bounded : (version left : ℕ) (e : Entry) → badEntry version left e ≡ false → Bounded left e
+bounded version left e h =
+    let p = neither (wrongHeaderSize version entryHeaderSize (e .«hdr_size») || ltb left (span e)) _ h in
+    let q = neither (wrongHeaderSize version entryHeaderSize (e .«hdr_size»)) (ltb left (span e)) (p .0) in
     record { least = header-least version entryHeaderSize (e .«hdr_size») (q .0); fits = ltb-false left (span e) (q .1) }
 
 -- an entry takes eight bytes or more, so with fewer left there is none that breaks no rule
@@ -44,15 +57,20 @@ bad-short version left e h = go (badEntry version left e) refl
   where
     go : (b : Bool) → badEntry version left e ≡ b → b ≡ true
     go true p = refl
-    go false p = let k : Good left e = good version left e p in absurd (omega arith)
+    go false p = let k : Bounded left e = bounded version left e p in absurd (omega arith)
 
 -- an entry is at the place where it was read
 pub entry-place : (a : List ℕ) (at : ℕ) → entryAt a at .at ≡ at
 unfolding entryAt
 entry-place a at = refl
 
+-- where the entry behind the one at a place starts
+abbrev pub next : List ℕ → ℕ → ℕ
+next a at = at + span (entryAt a at)
+
 -- ---- the count of steps
 
+-- what follows an entry counts only where the entry breaks no rule
 follow-cong : (b : Bool) (at : ℕ) (e : Entry) (x y : Walk) → (b ≡ false → x ≡ y) → cond b (broken at) (follow e x) ≡ cond b (broken at) (follow e y)
 follow-cong true at e x y h = refl
 follow-cong false at e x y h = ap (follow e) (h refl)
@@ -66,13 +84,9 @@ steps (suc f) zero version a u p h hf hg = let e : p ≡ u = omega arith in rw (
 steps (suc f) (suc g) version a u p h hf hg =
     ap (cond (eqb p u) (entries []))
     (follow-cong (badEntry version (u - p) (entryAt a p)) p (entryAt a p) _ _
-    (λ ok. further (good version (u - p) (entryAt a p) ok) (steps f g version a u (p + span (entryAt a p)))))
-  where
-    n : ℕ
-    n = p + span (entryAt a p)
-
-    further : Good (u - p) (entryAt a p) → (n ≤ u → u - n ≤ f → u - n ≤ g → walkIn f version a u n ≡ walkIn g version a u n) → walkIn f version a u n ≡ walkIn g version a u n
-    further k ih = ih (omega arith) (omega arith) (omega arith)
+    (λ ok.
+    let k : Bounded (u - p) (entryAt a p) = bounded version (u - p) (entryAt a p) ok in
+    steps f g version a u (next a p) (omega arith) (omega arith) (omega arith)))
 
 -- ---- the walk, place by place
 
@@ -84,22 +98,25 @@ module _ (version : ℕ) (a : List ℕ) (u : ℕ) where
 
   module _ (p : ℕ) (h : p < u) where
     -- one step: before used_size there is an entry, which breaks a rule or is followed by the rest
-    unfold-step : walkFrom version a u p ≡ cond (badEntry version (u - p) (entryAt a p)) (broken p) (follow (entryAt a p) (walkIn (u - p - 1) version a u (p + span (entryAt a p))))
+    unfold-step : walkFrom version a u p
+        ≡ cond (badEntry version (u - p) (entryAt a p)) (broken p) (follow (entryAt a p) (walkIn (u - p - 1) version a u (next a p)))
     unfolding walkFrom walkIn
     unfold-step =
         let e : u - p ≡ suc (u - p - 1) = omega arith in
-        let ne : p ≡ u → ⊥ = λ q. omega arith in
-        ap (λ (n : ℕ). walkIn n version a u p) e ∙ rw (ne-eqb p u ne)
+        ap (λ (n : ℕ). walkIn n version a u p) e ∙ rw (ne-eqb p u (λ q. omega arith))
 
+    -- an entry that breaks a rule
     pub walk-broken : badEntry version (u - p) (entryAt a p) ≡ true → walkFrom version a u p ≡ broken p
     walk-broken b = rw (unfold-step, b)
 
-    pub walk-next : badEntry version (u - p) (entryAt a p) ≡ false → walkFrom version a u p ≡ follow (entryAt a p) (walkFrom version a u (p + span (entryAt a p)))
+    -- any other entry
+    pub walk-next : badEntry version (u - p) (entryAt a p) ≡ false
+        → walkFrom version a u p ≡ follow (entryAt a p) (walkFrom version a u (next a p))
     unfolding walkFrom
     walk-next b =
-        let k : Good (u - p) (entryAt a p) = good version (u - p) (entryAt a p) b in
-        unfold-step
-        ∙ rw b (ap (follow (entryAt a p)) (steps (u - p - 1) (u - (p + span (entryAt a p))) version a u (p + span (entryAt a p)) (omega arith) (omega arith) (omega arith)))
+        let k : Bounded (u - p) (entryAt a p) = bounded version (u - p) (entryAt a p) b in
+        let s = steps (u - p - 1) (u - next a p) version a u (next a p) (omega arith) (omega arith) (omega arith) in
+        unfold-step ∙ rw b (ap (follow (entryAt a p)) s)
 
 -- ---- the entries of a walk
 
@@ -115,11 +132,6 @@ pub record Inside (first used : ℕ) (e : Entry) : Type 0 where
   pub within : e .at + span e ≤ used
 
 module _ (P : Entry → Type 0) where
-  -- what holds of an entry and of every one behind it holds of the whole row
-  all-follow : (e : Entry) (w : Walk) (row : List Entry) → P e → ((es : List Entry) → w ≡ entries es → All P es) → follow e w ≡ entries row → All P row
-  all-follow e (entries es) row p f h = let q : e ∷ es ≡ row = cc in subst (All P) q (p, f es refl)
-  all-follow e (broken at) row p f h = absurd (let z : _≡_ {A = ℕ} 0 1 = cc in omega arith)
-
   -- what holds of every entry holds of each occurrence
   pub occurrence-inside : (tag n : ℕ) (es : List Entry) (e : Entry) → All P es → occurrence tag n es ≡ some e → P e
   unfolding occurrence
@@ -133,38 +145,54 @@ module _ (P : Entry → Type 0) where
       go true false f g k = f k
       go false z f g k = g k
 
-module _ (version : ℕ) (a : List ℕ) (used first : ℕ) where
-  -- an entry that breaks no rule lies before used_size
-  inside-here : (at : ℕ) → first ≤ at → badEntry version (used - at) (entryAt a at) ≡ false → Inside first used (entryAt a at)
-  inside-here at h b =
-      let g : Good (used - at) (entryAt a at) = good version (used - at) (entryAt a at) b in
-      let e : entryAt a at .at ≡ at = entry-place a at in
-      record { least = g .least; behind = omega arith; within = omega arith }
+-- ---- walks that are not broken
 
-  -- the same for any number of steps
-  inside-in : (n at : ℕ) (row : List Entry) → first ≤ at → walkIn n version a used at ≡ entries row → All (Inside first used) row
+-- the walk from a place on gives the entries: it ends at used_size, or an entry that breaks no rule is followed by the others
+pub data Unbroken (version : ℕ) (a : List ℕ) (used : ℕ) : ℕ → List Entry → Type 0 where
+  ends : {at : ℕ} → at ≡ used → Unbroken version a used at []
+  goes : {at : ℕ} {row : List Entry} → badEntry version (used - at) (entryAt a at) ≡ false
+      → Unbroken version a used (next a at) row → Unbroken version a used at (entryAt a at ∷ row)
+
+module _ (version : ℕ) (a : List ℕ) (used : ℕ) where
+  -- at used_size there is no entry
+  ended : (at : ℕ) (row : List Entry) → eqb at used ≡ true → entries [] ≡ entries row → Unbroken version a used at row
+  ended at row h k = let q : [] ≡ row = cc in subst (Unbroken version a used at) q (ends (eqb-true at used h))
+
+  -- any number of steps that gives entries does
+  unbroken-in : (n at : ℕ) (row : List Entry) → walkIn n version a used at ≡ entries row → Unbroken version a used at row
   unfolding walkIn
-  inside-in zero at row h k = go (eqb at used) k
+  unbroken-in zero at row k = go (eqb at used) refl k
     where
-      go : (b : Bool) → cond b (entries []) (broken at) ≡ entries row → All (Inside first used) row
-      go true p = let q : [] ≡ row = cc in subst (All (Inside first used)) q tt
-      go false p = absurd (let z : _≡_ {A = ℕ} 0 1 = cc in omega arith)
-  inside-in (suc n) at row h k =
-      go (eqb at used) (badEntry version (used - at) (entryAt a at)) refl
-      (λ es l. inside-in n (at + span (entryAt a at)) es l) k
+      go : (b : Bool) → eqb at used ≡ b → cond b (entries []) (broken at) ≡ entries row → Unbroken version a used at row
+      go true h p = ended at row h p
+      go false h p = absurd (let z : _≡_ {A = ℕ} 0 1 = cc in omega arith)
+  unbroken-in (suc n) at row k =
+      go (eqb at used) (badEntry version (used - at) (entryAt a at)) (walkIn n version a used (next a at)) refl refl
+      (λ es. unbroken-in n (next a at) es) k
     where
-      rest : Walk
-      rest = walkIn n version a used (at + span (entryAt a at))
+      go : (b c : Bool) (w : Walk) → eqb at used ≡ b → badEntry version (used - at) (entryAt a at) ≡ c
+          → ((es : List Entry) → w ≡ entries es → Unbroken version a used (next a at) es)
+          → cond b (entries []) (cond c (broken at) (follow (entryAt a at) w)) ≡ entries row → Unbroken version a used at row
+      go true c w h e f p = ended at row h p
+      go false true w h e f p = absurd (let z : _≡_ {A = ℕ} 0 1 = cc in omega arith)
+      go false false (broken x) h e f p = absurd (let z : _≡_ {A = ℕ} 0 1 = cc in omega arith)
+      go false false (entries es) h e f p =
+          let q : entryAt a at ∷ es ≡ row = cc in
+          subst (Unbroken version a used at) q (goes e (f es refl))
 
-      go : (b c : Bool) → badEntry version (used - at) (entryAt a at) ≡ c
-          → ((es : List Entry) → first ≤ at + span (entryAt a at) → rest ≡ entries es → All (Inside first used) es)
-          → cond b (entries []) (cond c (broken at) (follow (entryAt a at) rest)) ≡ entries row → All (Inside first used) row
-      go true c e f p = let q : [] ≡ row = cc in subst (All (Inside first used)) q tt
-      go false true e f p = absurd (let z : _≡_ {A = ℕ} 0 1 = cc in omega arith)
-      go false false e f p =
-          all-follow (Inside first used) (entryAt a at) rest row (inside-here at h e) (λ es q. f es (omega arith) q) p
+  -- a walk that gives entries is not broken
+  pub unbroken : (at : ℕ) (row : List Entry) → walkFrom version a used at ≡ entries row → Unbroken version a used at row
+  unfolding walkFrom
+  unbroken at row h = unbroken-in (used - at) at row h
+
+  -- the entries of a walk that is not broken lie behind a place before it
+  inside-of : (first : ℕ) {at : ℕ} {row : List Entry} → first ≤ at → Unbroken version a used at row → All (Inside first used) row
+  inside-of first h (ends e) = tt
+  inside-of first {at} h (goes b s) =
+      let g : Bounded (used - at) (entryAt a at) = bounded version (used - at) (entryAt a at) b in
+      let e : entryAt a at .at ≡ at = entry-place a at in
+      (record { least = g .least; behind = omega arith; within = omega arith }, inside-of first (omega arith) s)
 
   -- each entry of an unbroken walk lies between its first place and used_size
-  pub walk-inside : (row : List Entry) → walkFrom version a used first ≡ entries row → All (Inside first used) row
-  unfolding walkFrom
-  walk-inside row h = inside-in (used - first) first row (omega arith) h
+  pub walk-inside : (first : ℕ) (row : List Entry) → walkFrom version a used first ≡ entries row → All (Inside first used) row
+  walk-inside first row h = inside-of first (omega arith) (unbroken first row h)

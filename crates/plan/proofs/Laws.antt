@@ -9,13 +9,16 @@ use lib.Seq.{take-take, take-all}
 use lib.Dec.{ltb, leb}
 use lib.Bits.{bitXor, xor-zero-l, xor-zero-r}
 use borrow.Author.Tests.{ltb-true, ltb-false, lt-ltb, le-ltb, leb-true, leb-false}
-use Rattle.wire.specs.Bytes.{xor, Bytes}
+use Rattle.wire.specs.Bytes.{xor}
+use Rattle.wire.proofs.Range.{Bytes}
 use Rattle.wire.proofs.Xor.{xor-append, xor-zeros}
 use Rattle.wire.proofs.Splice.{drop-take}
 use Rattle.rules.specs.Header.{headerOf}
 use Rattle.rules.specs.Entries.{entryHeader}
 use Rattle.rules.specs.Checksum.{checksumHolds, seal}
-use Rattle.laws.proofs.Patch.{edited, patched, seal-patched, written, length-entryHeader}
+use Rattle.rules.specs.AddAligned.{voidBytes}
+use Rattle.laws.proofs.Patch.{edited, patched, seal-patched, written}
+use Rattle.laws.proofs.EntryBytes.{length-entryHeader}
 use Rattle.plan.specs.declared.Plan.{Plan}
 use Rattle.plan.specs.Plan.{
   voidHeader,
@@ -27,6 +30,7 @@ use Rattle.plan.specs.Plan.{
   fieldsAfter,
   after,
   withChecksum,
+  WellFormed,
 }
 
 -- ---- voids
@@ -43,7 +47,7 @@ some-header n h = rw (le-ltb n 8 h)
 
 -- a whole void is its header and zeros
 pub whole-void : (n : ℕ) → wholeVoid n ≡ voidHeader n ++ replicate (n - 8) 0
-unfolding wholeVoid voidHeader
+unfolding wholeVoid voidHeader voidBytes
 whole-void n = go (ltb n 8) refl
   where
     go : (b : Bool) → ltb n 8 ≡ b → wholeVoid n ≡ voidHeader n ++ replicate (n - 8) 0
@@ -53,27 +57,19 @@ whole-void n = go (ltb n 8) refl
         rw (t, e)
     go false t = rw t
 
--- a void covers no more bytes than it is given
-pub voidSpan-le : (n : ℕ) → voidSpan n ≤ n
-voidSpan-le n = go (ltb n 8) refl
-  where
-    go : (b : Bool) → ltb n 8 ≡ b → voidSpan n ≤ n
-    go true t = rw t (omega arith)
-    go false t = rw t (omega arith)
-
--- a void's header covers 8 bytes at most
-pub headerSpan-le : (n : ℕ) → headerSpan n ≤ 8
+-- a void's header covers no more bytes than the void is given, and 8 at most
+pub headerSpan-le : (n : ℕ) → (headerSpan n ≤ n) × (headerSpan n ≤ 8)
 headerSpan-le n = go (ltb n 8) refl
   where
-    go : (b : Bool) → ltb n 8 ≡ b → headerSpan n ≤ 8
-    go true t = rw t (omega arith)
-    go false t = rw t (omega arith)
+    go : (b : Bool) → ltb n 8 ≡ b → (headerSpan n ≤ n) × (headerSpan n ≤ 8)
+    go true t = rw t (omega arith, omega arith)
+    go false t = let h : 8 ≤ n = ltb-false n 8 t in rw t (h, omega arith)
 
 -- ---- lengths
 
 -- a whole void has as many bytes as it covers
 pub length-wholeVoid : (n : ℕ) → length (wholeVoid n) ≡ voidSpan n
-unfolding wholeVoid
+unfolding wholeVoid voidBytes
 length-wholeVoid n = go (ltb n 8) refl
   where
     go : (b : Bool) → ltb n 8 ≡ b → length (wholeVoid n) ≡ voidSpan n
@@ -91,11 +87,12 @@ length-voidHeader n = go (ltb n 8) refl
     go true t = rw t
     go false t = rw (t, length-entryHeader)
 
--- and a whole stretch
-pub length-stretchOf : (p : Plan) (content : List ℕ) → length (stretchOf p content) ≡ stretchLength p (length content)
+-- and a whole stretch, where the padding is no byte or a void
+pub length-stretchOf : (p : Plan) (content : List ℕ) → p .padding ≡ voidSpan (p .padding)
+    → length (stretchOf p content) ≡ stretchLength p (length content)
 unfolding stretchOf
-length-stretchOf p content =
-    simp (length-append, length-wholeVoid, length-entryHeader, length-replicate, length-voidHeader)
+length-stretchOf p content h =
+    simp (length-append, length-wholeVoid, length-entryHeader, length-replicate, length-voidHeader, ← h) (omega arith)
 
 -- ---- exclusive or
 
@@ -104,7 +101,9 @@ pub xor-wholeVoid : (n : ℕ) → xor (wholeVoid n) ≡ xor (voidHeader n)
 xor-wholeVoid n = rw (whole-void, xor-append, xor-zeros, xor-zero-r)
 
 -- of a stretch the headers and the data count
-pub xor-stretchOf : (p : Plan) (content : List ℕ) → xor (stretchOf p content) ≡ bitXor (xor (voidHeader (p .padding))) (bitXor (xor (entryHeader (p .«tag_id») (p .«data_size»))) (bitXor (xor content) (xor (voidHeader (p .behind)))))
+pub xor-stretchOf : (p : Plan) (content : List ℕ) → xor (stretchOf p content)
+    ≡ bitXor (xor (voidHeader (p .padding)))
+    (bitXor (xor (entryHeader (p .«tag_id») (p .«data_size»))) (bitXor (xor content) (xor (voidHeader (p .behind)))))
 unfolding stretchOf
 xor-stretchOf p content = simp (xor-append, xor-wholeVoid, xor-zeros, xor-zero-l)
 
@@ -125,7 +124,8 @@ take-least n m l = go (leb n m) refl
         rw e (take-all n (take m l) (rw length-take (omega arith)))
 
 -- the used bytes among the n bytes from at on, of an area with u used bytes
-pub old-part : (a : List ℕ) (n at u : ℕ) → at ≤ u → at ≤ length a → take n (drop at (take u a)) ≡ take (min n (u - at)) (drop at a)
+pub old-part : (a : List ℕ) (n at u : ℕ) → at ≤ u → at ≤ length a
+    → take n (drop at (take u a)) ≡ take (min n (u - at)) (drop at a)
 old-part a n at u h l =
     let e : at + (u - at) ≡ u = omega arith in
     let d : drop at (take u a) ≡ take (u - at) (drop at a) = rw e at (drop-take at (u - at) a l) in
@@ -133,11 +133,17 @@ old-part a n at u h l =
 
 -- ---- the area afterwards
 
--- a plan with its checksum leaves the edited area with the checksum worked out afresh
-pub after-sealed : (p : Plan) (a content : List ℕ) → Bytes a → checksumHolds a ≡ true → 24 ≤ p .at → p .at ≤ headerOf a .«used_size» → p .«used_size» ≡ max (headerOf a .«used_size») (p .at + length (stretchOf p content)) → headerOf a .«used_size» ≤ length a → p .«used_size» < 2 ^ 32 → p .alignment < 256 → after (withChecksum a content p) a content ≡ seal (edited a (p .alignment) (p .«used_size») (p .at) (stretchOf p content))
+-- a well-formed plan with its checksum leaves the edited area with the checksum worked out afresh
+pub after-sealed : (p : Plan) (a content : List ℕ) → Bytes a → checksumHolds a ≡ true → headerOf a .«used_size» ≤ length a
+    → WellFormed (headerOf a) (length a) (length content) p
+    → after (withChecksum a content p) a content ≡ seal (edited a (p .alignment) (p .«used_size») (p .at) (stretchOf p content))
 unfolding after fieldsAfter withChecksum stretchOf
-after-sealed p a content b c h k e l s t =
+after-sealed p a content b c l w =
     let new : List ℕ = stretchOf p content in
+    let n : length new ≡ stretchLength p (length content) = length-stretchOf p content (w .padding) in
     let x : ℕ = patched a (p .alignment) (p .«used_size») (p .at) new in
-    sym (seal-patched a (p .alignment) (p .«used_size») (p .at) new b c h k e l s t
-    ∙ written a (p .alignment) (p .«used_size») (p .at) new x h (omega arith))
+    let f = headerSpan-le (p .behind) in
+    let e : p .«used_size» ≡ max (headerOf a .«used_size») (p .at + length new) = rw n (w .used) in
+    let s : p .«used_size» < 2 ^ 32 = omega (arith, w .used, w .inside, w .small) in
+    sym (seal-patched a (p .alignment) (p .«used_size») (p .at) new b c (w .low) (w .old) e l s (w .alignment)
+    ∙ written a (p .alignment) (p .«used_size») (p .at) new x (w .low) (omega (arith, w .old)))

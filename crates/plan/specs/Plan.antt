@@ -1,17 +1,18 @@
 -- What a plan says: the bytes of its stretch, the area afterwards, and the outcome that it stands for.
 use mathlib.Core.Path.{_≡_}
-use Prim.Native.Nat.{ℕ, _+_, _-_, _*_, _≤_, _<_, _^_}
+use Prim.Native.Nat.{ℕ, _+_, _-_, _*_, _%_, _≤_, _<_, _^_, max}
 use mathlib.Core.Bool.{cond}
-use mathlib.Core.List.{List, [], _∷_, _++_}
-use lib.ListN.{length, take, drop, set, replicate}
+use mathlib.Core.List.{List, [], _++_}
+use lib.ListN.{length, set, replicate}
 use lib.Dec.{ltb}
 use lib.Bits.{bitXor}
 use Rattle.wire.specs.Bytes.{leBytes, xor, splice}
 use Rattle.rules.specs.declared.Header.{Header}
-use Rattle.rules.specs.Header.{hasChecksum}
+use Rattle.rules.specs.Header.{headerOf, headerSize, entryHeaderSize, hasChecksum, checksumAt, withAlignment, withUsed}
 use Rattle.rules.specs.declared.Refusal.{Refusal}
 use Rattle.rules.specs.declared.Refusal.the-variants.{Area}
 use Rattle.rules.specs.Entries.{entryHeader}
+use Rattle.rules.specs.AddAligned.{voidBytes}
 use Rattle.rules.specs.Outcome.{Outcome, refused, done}
 use Rattle.laws.proofs.Patch.{patched}
 use Rattle.plan.specs.declared.Plan.{Plan}
@@ -20,21 +21,23 @@ use Rattle.plan.specs.declared.Planned.the-variants.{Go, Refused}
 
 -- the eight bytes of an entry header as one number
 abbrev pub entryWord : ℕ → ℕ → ℕ
-entryWord tag size = tag + 134217728 + 4294967296 * size
+entryWord tag size = tag + 2 ^ 24 * 8 + 2 ^ 32 * size
 
--- the header of a void that takes n bytes, and the whole void; fewer than 8 are none
+-- the header of a void that takes n bytes; fewer than 8 are none
 unfoldable pub voidHeader : ℕ → List ℕ
-voidHeader n = cond (ltb n 8) [] (entryHeader 0 (n - 8))
+voidHeader n = cond (ltb n entryHeaderSize) [] (entryHeader 0 (n - entryHeaderSize))
 
+-- and the whole void
 unfoldable pub wholeVoid : ℕ → List ℕ
-wholeVoid n = cond (ltb n 8) [] (entryHeader 0 (n - 8) ++ replicate (n - 8) 0)
+wholeVoid n = cond (ltb n entryHeaderSize) [] (voidBytes (n - entryHeaderSize))
 
--- and their lengths
+-- the bytes of its header
 abbrev pub headerSpan : ℕ → ℕ
-headerSpan n = cond (ltb n 8) 0 8
+headerSpan n = cond (ltb n entryHeaderSize) 0 entryHeaderSize
 
+-- and its own
 abbrev pub voidSpan : ℕ → ℕ
-voidSpan n = cond (ltb n 8) 0 n
+voidSpan n = cond (ltb n entryHeaderSize) 0 n
 
 -- the stretch: the padding void, the entry with its data and zeros, and the header of the void behind
 unfoldable pub stretchOf : Plan → List ℕ → List ℕ
@@ -44,12 +47,13 @@ stretchOf p content =
 
 -- its length, with n bytes of data
 abbrev pub stretchLength : Plan → ℕ → ℕ
-stretchLength p n = voidSpan (p .padding) + (8 + (n + (p .zeros + headerSpan (p .behind))))
+stretchLength p n = p .padding + entryHeaderSize + n + p .zeros + headerSpan (p .behind)
 
--- the area afterwards: the checksum byte, alignment and used_size, then the stretch
+-- the area with the plan's checksum byte, alignment and used_size
 unfoldable pub fieldsAfter : Plan → List ℕ → List ℕ
-fieldsAfter p a = splice (splice (set a 4 (p .checksum)) 7 (leBytes 1 (p .alignment))) 8 (leBytes 4 (p .«used_size»))
+fieldsAfter p a = withUsed (p .«used_size») (withAlignment (p .alignment) (set a checksumAt (p .checksum)))
 
+-- and with its stretch too: the area afterwards
 unfoldable pub after : Plan → List ℕ → List ℕ → List ℕ
 after p a content = splice (fieldsAfter p a) (p .at) (stretchOf p content)
 
@@ -79,20 +83,29 @@ abbrev pub refusalOfPlanned : Planned → Refusal
 refusalOfPlanned (Go p) = Area
 refusalOfPlanned (Refused r) = r
 
--- the numbers of a plan fit their fields
-pub record Moderate (p : Plan) : Type 0 where
-  pub padding : p .padding < 2 ^ 32
-  pub zeros : p .zeros < 2 ^ 32
-  pub behind : p .behind < 2 ^ 32
-  pub tag : p .«tag_id» < 2 ^ 24
-
--- the stretch lies behind the header and inside an area of len bytes; a void takes no byte or 8 or more
-pub record Writable (p : Plan) (len n : ℕ) : Type 0 where
-  pub header : 24 ≤ p .at
-  pub inside : p .at + p .padding + 8 + n + p .zeros + p .behind ≤ len
+-- a plan is well-formed for a list with the header h in len bytes, and n bytes of data: its stretch starts at a multiple of 8 behind the
+-- header, among the used bytes or at their end, and lies inside the area; used_size reaches to its end; a padding void takes no byte
+-- or 8 or more; numbers fit their fields
+pub record WellFormed (h : Header) (len n : ℕ) (p : Plan) : Type 0 where
+  pub low : headerSize ≤ p .at
+  pub eights : p .at % 8 ≡ 0
+  pub old : p .at ≤ h .«used_size»
+  pub used : p .«used_size» ≡ max (h .«used_size») (p .at + stretchLength p n)
+  pub inside : p .at + p .padding + entryHeaderSize + n + p .zeros + p .behind ≤ len
   pub padding : p .padding ≡ voidSpan (p .padding)
   pub tag : p .«tag_id» < 2 ^ 24
+  pub alignment : p .alignment < 256
   pub small : len < 2 ^ 32
+
+-- a plan that is to be written can be
+abbrev pub CanWrite : List ℕ → List ℕ → Planned → Type 0
+CanWrite a content (Go p) = WellFormed (headerOf a) (length a) (length content) p
+CanWrite a content (Refused r) = Unit
+
+-- a decision comes to the outcome o
+pub record Decides (a content : List ℕ) (o : Outcome) (r : Planned) : Type 0 where
+  pub comes : outcomeOf a content r ≡ o
+  pub writable : CanWrite a content r
 
 -- the checksum byte of a list whose total_size becomes t, from the old and the new one
 unfoldable pub totalPatch : Header → ℕ → ℕ

@@ -15,7 +15,7 @@ pub struct Plan {
     pub checksum: u8,
     pub alignment: u8,
     pub used_size: u32,
-    // Where the stretch starts.
+    // Where the stretch starts: a multiple of 8.
     pub at: usize,
     // The bytes of the padding void in front, its header included; 0 where there is none.
     pub padding: usize,
@@ -35,7 +35,7 @@ pub enum Planned {
 
 impl Planned {
     // Why nothing is to be done.
-    pub fn refusal(self) -> Refusal
+    pub(crate) fn refusal(self) -> Refusal
         ensures { λ r. ⌜ r ≡ refusalOfPlanned self ⌝ }
     {
         match self {
@@ -46,9 +46,9 @@ impl Planned {
 }
 
 // The eight bytes of an entry header as one number.
-pub fn entry_word(tag: u32, size: u32) -> u64
+pub(crate) fn entry_word(tag: u32, size: u32) -> u64
     requires { ⌜ tag < 2 ^ 24 ⌝ }
     ensures { λ r. ⌜ r ≡ entryWord tag size ⌝ }
 {
-    tag as u64 + 134217728 + 4294967296 * (size as u64)
+    tag as u64 + 0x800_0000 + 0x1_0000_0000 * (size as u64)
 }

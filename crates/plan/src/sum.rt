@@ -4,26 +4,10 @@ use rules::Header;
 ghost use mathlib.Core.Path.{_≡_};
 ghost use Prim.Native.Nat.{_+_, _-_, _≤_, _<_, _^_, min};
 ghost use lib.ListN.{length};
-ghost use Rattle.wire.specs.Bytes.{leBytes, xor};
+ghost use Rattle.wire.specs.Bytes.{xor};
 ghost use Rattle.rules.specs.Header.{headerOf};
 ghost use Rattle.laws.proofs.Patch.{patchOf};
-ghost use Rattle.plan.specs.Plan.{voidHeader, voidSpan, headerSpan, stretchLength, stretchOf, withChecksum, totalPatch, Moderate};
-
-// The exclusive or of a number's four bytes.
-fn xor_number(n: u32) -> u8
-    ensures { λ r. ⌜ r ≡ xor (leBytes 4 n) ⌝ }
-{
-    (n % 256) as u8
-        ^ ((n / 256 % 256) as u8
-            ^ ((n / 256 / 256 % 256) as u8 ^ (n / 256 / 256 / 256 % 256) as u8))
-}
-
-// The exclusive or of a number's eight bytes.
-fn xor_word(w: u64) -> u8
-    ensures { λ r. ⌜ r ≡ xor (leBytes 8 w) ⌝ }
-{
-    xor_number((w % 4294967296) as u32) ^ xor_number((w / 4294967296) as u32)
-}
+ghost use Rattle.plan.specs.Plan.{voidHeader, headerSpan, stretchLength, stretchOf, withChecksum, totalPatch, WellFormed};
 
 // The exclusive or of the header of a void that takes n bytes, if there is one.
 fn xor_void(n: usize) -> u8
@@ -34,7 +18,7 @@ fn xor_void(n: usize) -> u8
         return 0;
     }
     let size = n - 8;
-    xor_word(crate::entry_word(0, size as u32))
+    wire::xor8(crate::entry_word(0, size as u32))
 }
 
 // The exclusive or of the bytes that the plan will write in its stretch.
@@ -43,20 +27,11 @@ fn xor_stretch(p: Plan, data: &[u8]) -> u8
     ensures { λ r. ⌜ r ≡ xor (stretchOf p (now («data» .entry))) ⌝ }
 {
     xor_void(p.padding)
-        ^ (xor_word(crate::entry_word(p.tag_id, p.data_size))
+        ^ (wire::xor8(crate::entry_word(p.tag_id, p.data_size))
             ^ (wire::xor_part(data, 0, data.len()) ^ xor_void(p.behind)))
 }
 
-// The bytes that a void of n bytes takes, and those of its header; fewer than 8 are none.
-fn void_span(n: usize) -> usize
-    ensures { λ r. ⌜ r ≡ voidSpan n ⌝ }
-{
-    if n < 8 {
-        return 0;
-    }
-    n
-}
-
+// The bytes of the header of a void that takes n bytes, if there is one.
 fn header_span(n: usize) -> usize
     ensures { λ r. ⌜ r ≡ headerSpan n ⌝ }
 {
@@ -66,20 +41,12 @@ fn header_span(n: usize) -> usize
     8
 }
 
-// The length of the stretch, with n bytes of data.
-fn stretch_length(p: Plan, n: usize) -> usize
-    requires { ⌜ (p .padding < 2 ^ 32) × (p .zeros < 2 ^ 32) × (n < 2 ^ 63) ⌝ }
-    ensures { λ r. ⌜ r ≡ stretchLength p n ⌝ }
-{
-    void_span(p.padding) + (8 + (n + (p.zeros + header_span(p.behind))))
-}
-
 // How many bytes of the stretch were used bytes before.
 fn old_length(p: Plan, n: usize, used: usize) -> usize
-    requires { ⌜ (p .at ≤ used) × (p .padding < 2 ^ 32) × (p .zeros < 2 ^ 32) × (n < 2 ^ 63) ⌝ }
+    requires { ⌜ (p .at ≤ used) × (p .padding + 8 + n + p .zeros < 2 ^ 63) ⌝ }
     ensures { λ r. ⌜ r ≡ min (stretchLength p n) (used - p .at) ⌝ }
 {
-    let len = stretch_length(p, n);
+    let len = p.padding + 8 + n + p.zeros + header_span(p.behind);
     let left = used - p.at;
     if len < left {
         return len;
@@ -89,7 +56,7 @@ fn old_length(p: Plan, n: usize, used: usize) -> usize
 
 // The checksum byte with has_checksum: the old one, and the exclusive or of the old and the new named bytes.
 fn patch(p: Plan, a: &[u8], h: Header, data: &[u8]) -> u8
-    requires { ⌜ (h ≡ headerOf (now a)) × (h .«used_size» ≤ length (now a)) × (p .at ≤ h .«used_size») × Moderate p ⌝ }
+    requires { ⌜ (h ≡ headerOf (now a)) × (h .«used_size» ≤ length (now a)) × WellFormed h (length (now a)) (length (now «data»)) p ⌝ }
     ensures { λ r. ⌜ r ≡ patchOf (now (a .entry)) (p .alignment) (p .«used_size») (p .at) (stretchOf p (now («data» .entry))) ⌝ }
 {
     let at = p.at;
@@ -97,15 +64,15 @@ fn patch(p: Plan, a: &[u8], h: Header, data: &[u8]) -> u8
     h.checksum
         ^ h.alignment
         ^ p.alignment
-        ^ xor_number(h.used_size)
-        ^ xor_number(p.used_size)
+        ^ wire::xor4(h.used_size)
+        ^ wire::xor4(p.used_size)
         ^ wire::xor_part(a, at, old)
         ^ xor_stretch(p, data)
 }
 
 // The plan with the checksum byte that the area will have; without has_checksum it is 0.
 pub fn with_checksum(p: Plan, a: &[u8], h: Header, data: &[u8]) -> Plan
-    requires { ⌜ (h ≡ headerOf (now a)) × (h .«used_size» ≤ length (now a)) × (p .at ≤ h .«used_size») × Moderate p ⌝ }
+    requires { ⌜ (h ≡ headerOf (now a)) × (h .«used_size» ≤ length (now a)) × WellFormed h (length (now a)) (length (now «data»)) p ⌝ }
     ensures { λ r. ⌜ r ≡ withChecksum (now (a .entry)) (now («data» .entry)) p ⌝ }
 {
     let mut sealed = p;
@@ -123,7 +90,7 @@ pub fn total_patch(h: Header, total: u32) -> u8
     ensures { λ r. ⌜ r ≡ totalPatch h total ⌝ }
 {
     if h.flags % 2 == 1 {
-        return h.checksum ^ xor_number(h.total_size) ^ xor_number(total);
+        return h.checksum ^ wire::xor4(h.total_size) ^ wire::xor4(total);
     }
     0
 }

@@ -1,16 +1,20 @@
-// Writing a plan, piece by piece.
+// Writing a plan, piece by piece, and carrying out what an edit has decided.
 use crate::Plan;
+use crate::Planned;
+use rules::Done;
 ghost use mathlib.Core.Path.{_≡_};
 ghost use Prim.Native.Nat.{_+_, _≤_, _<_, _^_};
 ghost use mathlib.Core.List.{_++_};
 ghost use lib.ListN.{length, replicate};
 ghost use Rattle.wire.specs.Bytes.{splice};
+ghost use Rattle.rules.specs.Header.{headerOf, headerSize};
 ghost use Rattle.rules.specs.Entries.{entryHeader};
-ghost use Rattle.plan.specs.Plan.{voidHeader, wholeVoid, fieldsAfter, after, Writable};
+ghost use Rattle.rules.specs.Outcome.{answer, bytesAfter};
+ghost use Rattle.plan.specs.Plan.{voidHeader, wholeVoid, fieldsAfter, after, WellFormed, outcomeOf, CanWrite};
 
 // The checksum byte, the alignment and used_size.
 fn write_fields(a: &mut [u8], p: Plan)
-    requires { ⌜ 24 ≤ length (now a) ⌝ }
+    requires { ⌜ headerSize ≤ length (now a) ⌝ }
     ensures { λ _. ⌜ now (a .exit) ≡ fieldsAfter p (now (a .entry)) ⌝ }
 {
     a[4] = p.checksum;
@@ -53,8 +57,8 @@ fn write_entry(a: &mut [u8], at: usize, tag: u32, size: u32, data: &[u8], zeros:
 }
 
 // The whole plan: the header fields, the padding void, the entry, and the header of the void behind.
-pub fn write_plan(a: &mut [u8], p: Plan, data: &[u8])
-    requires { ⌜ Writable p (length (now a)) (length (now «data»)) ⌝ }
+fn write_plan(a: &mut [u8], p: Plan, data: &[u8])
+    requires { ⌜ WellFormed (headerOf (now a)) (length (now a)) (length (now «data»)) p ⌝ }
     ensures { λ _. ⌜ now (a .exit) ≡ after p (now (a .entry)) (now («data» .entry)) ⌝ }
 {
     let at = p.at;
@@ -64,4 +68,17 @@ pub fn write_plan(a: &mut [u8], p: Plan, data: &[u8])
     write_void(a, at, p.padding);
     write_entry(a, entry, p.tag_id, p.data_size, data, p.zeros);
     write_void_header(a, behind, p.behind);
+}
+
+// Carries out what an edit has decided. A refusal changes no byte.
+pub fn carry_out(area: &mut [u8], planned: Planned, data: &[u8]) -> Done
+    requires { ⌜ CanWrite (now area) (now «data») planned ⌝ }
+    ensures { λ r. ⌜ r ≡ answer (outcomeOf (now (area .entry)) (now («data» .entry)) planned) ⌝ }
+    ensures { λ _. ⌜ now (area .exit) ≡ bytesAfter (now (area .entry)) (outcomeOf (now (area .entry)) (now («data» .entry)) planned) ⌝ }
+{
+    let Planned::Go(p) = planned else {
+        return Done::Refused(planned.refusal());
+    };
+    write_plan(area, p, data);
+    Done::Value(p.value)
 }

@@ -1,13 +1,11 @@
 -- Document 01, "Bench examples": A* to J*, every part of each, as the rows of one table. The claim `examples` is that in each row
--- what the rules compute is what the paper says: the answer's numbers and every lent byte afterwards.
+-- what the rules compute is what the paper says: the answer's numbers and every lent byte afterwards (of 65,536 the first 24).
 use mathlib.Core.Path.{_≡_, refl}
 use Prim.Native.Nat.{ℕ}
-use mathlib.Core.Bool.{Bool, true, false}
+use mathlib.Core.Bool.{true, false}
 use mathlib.Core.List.{List, [], _∷_, _++_, map}
 use lib.ListN.{take, replicate}
 use Rattle.wire.specs.Bytes.{field, leBytes, xor, splice}
-use Rattle.rules.specs.declared.Checked.{Checked}
-use Rattle.rules.specs.declared.Done.{Done}
 use Rattle.rules.specs.declared.CheckAnswer.{CheckAnswer}
 use Rattle.rules.specs.declared.DoneAnswer.{DoneAnswer}
 use Rattle.rules.specs.Header.{headerOf, headerBytes, freshHeader}
@@ -23,14 +21,15 @@ use Rattle.rules.specs.Entries.{
   occurrence,
 }
 use Rattle.rules.specs.Checksum.{checksumHolds, freshChecksum, seal}
-use Rattle.rules.specs.Tags.{tagTable, allowedIn}
-use Rattle.rules.specs.Check.{checks, check, checkAnswer}
+use Rattle.rules.specs.Tags.{tagTable, breaksTable}
+use Rattle.rules.specs.Check.{fieldsRefusal, headerRefusal, checksOf, check, checkAnswer}
 use Rattle.rules.specs.Outcome.{Outcome, answer, bytesAfter, doneAnswer}
 use Rattle.rules.specs.Create.{freshList, create}
 use Rattle.rules.specs.Add.{entryBytes, firstFit, voidBehind, addInVoid, append, addAtEnd, add}
 use Rattle.rules.specs.AddAligned.{voidBytes, paddingVoid, alignedBytes, appendAligned, addAlignedAtEnd, addAligned}
 use Rattle.rules.specs.Void.{void}
-use Rattle.rules.specs.Relocate.{newBase, shift, moved, targetBytes, moveTo, relocate}
+use Rattle.rules.specs.Relocate.{newBase, shift, moved, inTarget, targetBytes, moveTo, relocate}
+use Rattle.rules.specs.Edit.{Edit, toAdd, toAddAligned, toVoid, toRelocate, run, destination, lent}
 
 -- ---- the bytes
 
@@ -245,6 +244,14 @@ after before o =
     let n : DoneAnswer = doneAnswer (answer o) in
     record { numbers = n .number ∷ n .value ∷ []; bytes = bytesAfter before o }
 
+-- of an edit of a list at 0x1000
+abbrev shownBy : Edit → List ℕ → Shown
+shownBy e a = after (lent (destination e) a) (run e a 0x1000)
+
+-- of a create of so many bytes there
+abbrev created : ℕ → Shown
+created len = after (replicate len 0xff) (create (replicate len 0xff) 0x1000 true)
+
 -- of a check, which writes nothing
 abbrev checked : List ℕ → Shown
 checked a =
@@ -262,12 +269,12 @@ abbrev shows : ℕ → ℕ → List ℕ → Shown
 shows number value bytes = record { numbers = number ∷ value ∷ []; bytes = bytes }
 
 -- a row: what the rules compute, and what the paper says
-pub record Row : Type 0 where
+pub record Example : Type 0 where
   pub got : Shown
   pub want : Shown
 
 infix 10 _is_
-abbrev _is_ : Shown → Shown → Row
+abbrev _is_ : Shown → Shown → Example
 got is want = record { got = got; want = want }
 
 -- data of the examples
@@ -277,38 +284,38 @@ upTo9 = 1 ∷ 2 ∷ 3 ∷ 4 ∷ 5 ∷ 6 ∷ 7 ∷ 8 ∷ 9 ∷ []
 abbrev upTo16 : List ℕ
 upTo16 = upTo9 ++ (10 ∷ 11 ∷ 12 ∷ 13 ∷ 14 ∷ 15 ∷ 16 ∷ [])
 
-abbrev pub table : List Row
+abbrev pub table : List Example
 table =
     -- A
-    (after (replicate 64 0xff) (create (replicate 64 0xff) 0x1000 true) is shows 0 64 areaA)
+    (created 64 is shows 0 64 areaA)
     -- B
-    ∷ (after areaA (add areaA 0x1000 1 (0xaa ∷ 0xbb ∷ 0xcc ∷ []) false) is shows 0 32 areaB)
+    ∷ (shownBy (toAdd 1 (0xaa ∷ 0xbb ∷ 0xcc ∷ []) false) areaA is shows 0 32 areaB)
     -- C
-    ∷ (after areaB (void areaB 0x1000 1 0) is shows 0 24 areaC)
+    ∷ (shownBy (toVoid 1 0) areaB is shows 0 24 areaC)
     -- D
-    ∷ (after areaC (add areaC 0x1000 2 [] true) is shows 0 32 areaD)
+    ∷ (shownBy (toAdd 2 [] true) areaC is shows 0 32 areaD)
     -- E: 17 does not fit, 16 and 9 fill the void, 8 leaves one of size 0
-    ∷ (after areaE (add areaE 0x1000 2 (replicate 17 1) true) is shows 14 0 areaE)
-    ∷ (after areaE (add areaE 0x1000 2 upTo16 true) is shows 0 32 areaE16)
-    ∷ (after areaE (add areaE 0x1000 2 upTo9 true) is shows 0 32 areaE9)
-    ∷ (after areaE (add areaE 0x1000 2 (take 8 upTo9) true) is shows 0 32 areaE8)
+    ∷ (shownBy (toAdd 2 (replicate 17 1) true) areaE is shows 14 0 areaE)
+    ∷ (shownBy (toAdd 2 upTo16 true) areaE is shows 0 32 areaE16)
+    ∷ (shownBy (toAdd 2 upTo9 true) areaE is shows 0 32 areaE9)
+    ∷ (shownBy (toAdd 2 (take 8 upTo9) true) areaE is shows 0 32 areaE8)
     -- F: with 8 left no data is taken, and one byte is ROOM; with 0 left no data is ROOM
-    ∷ (after areaF8 (add areaF8 0x1000 2 [] false) is shows 0 32 areaF0)
-    ∷ (after areaF8 (add areaF8 0x1000 2 (7 ∷ []) false) is shows 14 0 areaF8)
-    ∷ (after areaF0 (add areaF0 0x1000 2 [] false) is shows 14 0 areaF0)
+    ∷ (shownBy (toAdd 2 [] false) areaF8 is shows 0 32 areaF0)
+    ∷ (shownBy (toAdd 2 (7 ∷ []) false) areaF8 is shows 14 0 areaF8)
+    ∷ (shownBy (toAdd 2 [] false) areaF0 is shows 14 0 areaF0)
     -- G: exponent 4, exponent 6, and exponent 6 with total 64
-    ∷ (after areaG (addAligned areaG 0x1000 4 (take 4 upTo9) 4) is shows 0 32 areaG4)
-    ∷ (after areaG (addAligned areaG 0x1000 4 (take 4 upTo9) 6) is shows 0 64 areaG6)
-    ∷ (after areaA (addAligned areaA 0x1000 4 (take 4 upTo9) 6) is shows 14 0 areaA)
+    ∷ (shownBy (toAddAligned 4 (take 4 upTo9) 4) areaG is shows 0 32 areaG4)
+    ∷ (shownBy (toAddAligned 4 (take 4 upTo9) 6) areaG is shows 0 64 areaG6)
+    ∷ (shownBy (toAddAligned 4 (take 4 upTo9) 6) areaA is shows 14 0 areaA)
     -- H: target lengths 200, 128 and 127
-    ∷ (after (replicate 200 0xff) (relocate areaG6 0x1000 (replicate 200 0xff) 0x2008) is shows 0 56 targetH200)
-    ∷ (after (replicate 128 0xff) (relocate areaG6 0x1000 (replicate 128 0xff) 0x2008) is shows 0 56 targetH128)
-    ∷ (after (replicate 127 0xff) (relocate areaG6 0x1000 (replicate 127 0xff) 0x2008) is shows 14 0 (replicate 127 0xff))
+    ∷ (shownBy (toRelocate (replicate 200 0xff) 0x2008) areaG6 is shows 0 56 targetH200)
+    ∷ (shownBy (toRelocate (replicate 128 0xff) 0x2008) areaG6 is shows 0 56 targetH128)
+    ∷ (shownBy (toRelocate (replicate 127 0xff) 0x2008) areaG6 is shows 14 0 (replicate 127 0xff))
     -- I: lengths 24, 25, 65,536 and 65,537
-    ∷ (after (replicate 24 0xff) (create (replicate 24 0xff) 0x1000 true) is shows 2 0 (replicate 24 0xff))
-    ∷ (after (replicate 25 0xff) (create (replicate 25 0xff) 0x1000 true) is shows 0 24 areaI25)
-    ∷ (first 24 (after (replicate 65536 0xff) (create (replicate 65536 0xff) 0x1000 true)) is shows 0 65536 headerI)
-    ∷ (after (replicate 65537 0xff) (create (replicate 65537 0xff) 0x1000 true) is shows 1 0 (replicate 65537 0xff))
+    ∷ (created 24 is shows 2 0 (replicate 24 0xff))
+    ∷ (created 25 is shows 0 24 areaI25)
+    ∷ (first 24 (created 65536) is shows 0 65536 headerI)
+    ∷ (created 65537 is shows 1 0 (replicate 65537 0xff))
     -- J: alignment fields 2 and 13 are SIZES, 3 and 12 pass
     ∷ (checked areaJ2 is record { numbers = 6 ∷ replicate 6 0; bytes = areaJ2 })
     ∷ (checked areaJ13 is record { numbers = 6 ∷ replicate 6 0; bytes = areaJ13 })
@@ -317,6 +324,10 @@ table =
     ∷ []
 
 -- the claim
-pub examples : map (λ (r : Row). r .got) table ≡ map (λ (r : Row). r .want) table
-unfolding field leBytes xor splice headerOf headerBytes freshHeader entryAt entryHeader walkIn walkFrom walk entriesOf liveCount voidCount occurrence checksumHolds freshChecksum seal tagTable allowedIn checks freshList create entryBytes firstFit voidBehind addInVoid append addAtEnd add voidBytes paddingVoid alignedBytes appendAligned addAlignedAtEnd addAligned void newBase shift moved targetBytes moveTo relocate
+pub examples : map (λ (r : Example). r .got) table ≡ map (λ (r : Example). r .want) table
+unfolding field leBytes xor splice headerOf headerBytes freshHeader entryAt entryHeader walkIn walkFrom walk entriesOf
+    liveCount voidCount occurrence checksumHolds freshChecksum seal tagTable breaksTable fieldsRefusal headerRefusal checksOf
+    freshList create entryBytes firstFit voidBehind addInVoid append addAtEnd add
+    voidBytes paddingVoid alignedBytes appendAligned addAlignedAtEnd addAligned void
+    newBase shift moved inTarget targetBytes moveTo relocate
 examples = refl

@@ -4,19 +4,17 @@ use mathlib.Core.Bool.{Bool, true, false, _&&_, cond}
 use mathlib.Core.List.{List, [], _∷_, _++_}
 use mathlib.Core.Option.{Option, none, some}
 use lib.ListN.{length, replicate}
-use lib.Dec.{leb, ltb, eqb}
+use lib.Dec.{leb, ltb}
 use Rattle.wire.specs.Bytes.{splice}
 use Rattle.rules.specs.declared.Entry.{Entry}
-use Rattle.rules.specs.declared.Header.{Header}
 use Rattle.rules.specs.declared.Refusal.the-variants.{Tag, Shape, Room}
 use Rattle.rules.specs.Area.{align8}
-use Rattle.rules.specs.Header.{headerOf, entryHeaderSize}
+use Rattle.rules.specs.Header.{headerOf, entryHeaderSize, withUsed}
 use Rattle.rules.specs.Entries.{entryHeader, isVoid, entriesOf}
 use Rattle.rules.specs.Checksum.{seal}
 use Rattle.rules.specs.Refusals.{refusesTagAdd}
 use Rattle.rules.specs.Tags.{refusesShape}
-use Rattle.rules.specs.Check.{admit}
-use Rattle.rules.specs.Outcome.{Outcome, refused, done, afterAdmission, withUsed}
+use Rattle.rules.specs.Outcome.{Outcome, refused, done}
 
 -- the bytes that an entry with n bytes of data covers
 abbrev pub entrySpan : ℕ → ℕ
@@ -65,13 +63,13 @@ addAtEnd a tag content =
     cond (ltb (room a) (entrySpan (length content))) (refused Room)
     (done (headerOf a .«used_size» + entryHeaderSize) (seal (append a (entryBytes tag content))))
 
+-- the entry in the void taken, or at used_size where none is
 abbrev pub addAt : List ℕ → ℕ → List ℕ → Option Entry → Outcome
 addAt a tag content (some e) = addInVoid a tag content e
 addAt a tag content none = addAtEnd a tag content
 
--- after checks 1 to 8, 9 and 10; answers the new data's offset
-unfoldable pub add : List ℕ → ℕ → ℕ → List ℕ → Bool → Outcome
-add a base tag content useVoids =
-    afterAdmission (admit a base)
-    (cond (refusesTagAdd tag) (refused Tag)
-    (cond (refusesShape tag (length content)) (refused Shape) (addAt a tag content (takenVoid useVoids (length content) a))))
+-- an add to a list that is admitted: 9, 10, then the add; answers the new data's offset
+unfoldable pub add : List ℕ → ℕ → List ℕ → Bool → Outcome
+add a tag content useVoids =
+    cond (refusesTagAdd tag) (refused Tag)
+    (cond (refusesShape tag (length content)) (refused Shape) (addAt a tag content (takenVoid useVoids (length content) a)))

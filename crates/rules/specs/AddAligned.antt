@@ -1,17 +1,16 @@
 -- Document 01, "Add aligned".
 use Prim.Native.Nat.{ℕ, _+_, _-_, _%_, _^_, max}
-use mathlib.Core.Bool.{Bool, cond}
+use mathlib.Core.Bool.{cond}
 use mathlib.Core.List.{List, [], _++_}
 use lib.ListN.{length, replicate}
 use lib.Dec.{ltb, eqb}
 use Rattle.rules.specs.declared.Refusal.the-variants.{Tag, Shape, Align, Room}
-use Rattle.rules.specs.Header.{headerOf, entryHeaderSize}
+use Rattle.rules.specs.Header.{headerOf, entryHeaderSize, withAlignment}
 use Rattle.rules.specs.Entries.{entryHeader}
 use Rattle.rules.specs.Checksum.{seal}
 use Rattle.rules.specs.Refusals.{refusesTagAdd, refusesAlign}
 use Rattle.rules.specs.Tags.{refusesShape}
-use Rattle.rules.specs.Check.{admit}
-use Rattle.rules.specs.Outcome.{Outcome, refused, done, afterAdmission, withAlignment}
+use Rattle.rules.specs.Outcome.{Outcome, refused, done}
 use Rattle.rules.specs.Add.{entryBytes, append, room}
 
 -- "Let p be (base + used + 8) modulo 2^a."
@@ -45,10 +44,9 @@ addAlignedAtEnd a base tag content exponent =
     cond (ltb (room a) (length (alignedBytes a base tag content exponent))) (refused Room)
     (done (alignedOffset a base exponent) (seal (appendAligned a exponent (alignedBytes a base tag content exponent))))
 
--- after checks 1 to 8, 9, 10 and 11; answers the new data's offset
+-- an aligned add to a list that is admitted: 9, 10, 11, then the add; answers the new data's offset
 unfoldable pub addAligned : List ℕ → ℕ → ℕ → List ℕ → ℕ → Outcome
 addAligned a base tag content exponent =
-    afterAdmission (admit a base)
-    (cond (refusesTagAdd tag) (refused Tag)
+    cond (refusesTagAdd tag) (refused Tag)
     (cond (refusesShape tag (length content)) (refused Shape)
-    (cond (refusesAlign exponent) (refused Align) (addAlignedAtEnd a base tag content exponent))))
+    (cond (refusesAlign exponent) (refused Align) (addAlignedAtEnd a base tag content exponent)))

@@ -5,16 +5,12 @@ use mathlib.Core.List.{List, _++_}
 use lib.ListN.{take, drop, set}
 use lib.Dec.{eqb}
 use Rattle.wire.specs.Bytes.{xor}
-use Rattle.rules.specs.Header.{headerOf, hasChecksum}
+use Rattle.rules.specs.Header.{headerOf, hasChecksum, checksumAt}
 
 -- "With has_checksum the xor of all used bytes, checksum byte included, is 0. Without it the checksum byte is 0."
 unfoldable pub checksumHolds : List ℕ → Bool
 checksumHolds a =
     cond (hasChecksum (headerOf a)) (eqb (xor (take (headerOf a .«used_size») a)) 0) (eqb (headerOf a .checksum) 0)
-
--- the offset of the checksum byte
-abbrev pub checksumAt : ℕ
-checksumAt = 4
 
 -- a list of bytes without byte i
 abbrev pub without : ℕ → List ℕ → List ℕ

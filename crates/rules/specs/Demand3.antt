@@ -1,7 +1,7 @@
 -- Document 01, "Demand 3's words": what holds of every edit that is not refused.
 use mathlib.Core.Path.{_≡_}
 use Prim.Native.Nat.{ℕ, _+_, _-_, _%_, _^_, _<_}
-use mathlib.Core.Bool.{Bool, true, false, not, _&&_, _||_, cond}
+use mathlib.Core.Bool.{Bool, false, not, _&&_, _||_, cond}
 use mathlib.Core.List.{List, [], _∷_, _++_, map}
 use mathlib.Core.Option.{Option, none, some}
 use lib.ListN.{length, take, drop, getD}
@@ -10,15 +10,27 @@ use Rattle.rules.specs.declared.Entry.{Entry}
 use Rattle.rules.specs.declared.Facts.{Facts}
 use Rattle.rules.specs.declared.DoneAnswer.{DoneAnswer}
 use Rattle.rules.specs.declared.Checked.the-variants.{Accepted}
-use Rattle.rules.specs.Area.{align8}
-use Rattle.rules.specs.Header.{headerOf, entryHeaderSize, currentVersion}
+use Rattle.rules.specs.Header.{headerOf, currentVersion, checksumAt, alignmentAt, usedAt, totalAt}
 use Rattle.rules.specs.Entries.{isVoid, dataOffset, entriesOf, liveCount, occurrence}
-use Rattle.rules.specs.Checksum.{freshChecksum, checksumAt}
+use Rattle.rules.specs.Checksum.{freshChecksum}
 use Rattle.rules.specs.Check.{check}
-use Rattle.rules.specs.Outcome.{done}
+use Rattle.rules.specs.Outcome.{done, answer, bytesAfter, doneAnswer}
 use Rattle.rules.specs.Add.{entrySpan, takenVoid, voidBehind}
-use Rattle.rules.specs.AddAligned.{alignedBytes}
-use Rattle.rules.specs.Edit.{Edit, add, addAligned, void, relocate, run, resultArea, resultBase}
+use Rattle.rules.specs.Edit.{
+  Edit,
+  toAdd,
+  toAddAligned,
+  toVoid,
+  toRelocate,
+  run,
+  Destination,
+  inPlace,
+  into,
+  destination,
+  lent,
+  resultArea,
+  resultBase,
+}
 
 -- ---- the fresh reading
 
@@ -30,6 +42,7 @@ pub record Live : Type 0 where
 abbrev pub liveAt : List ℕ → Entry → Live
 liveAt a e = record { tag = e .«tag_id»; content = take (e .«data_size») (drop (dataOffset e) a) }
 
+-- the live ones of some entries, as they are read from a
 unfoldable pub liveIn : List ℕ → List Entry → List Live
 liveIn a [] = []
 liveIn a (e ∷ es) = cond (isVoid e) (liveIn a es) (liveAt a e ∷ liveIn a es)
@@ -59,58 +72,64 @@ abbrev pub position : List ℕ → Option Entry → ℕ
 position a (some e) = liveBefore (e .at) (entriesOf a)
 position a none = liveCount (entriesOf a)
 
+-- the reading of the given list, changed by the edit; one that names no entry leaves it as it was
 abbrev pub changed : Edit → List ℕ → List Live → List Live
-changed (add tag content useVoids) a xs =
+changed (toAdd tag content useVoids) a xs =
     putIn (position a (takenVoid useVoids (length content) a)) (record { tag = tag; content = content }) xs
-changed (addAligned tag content exponent) a xs = putIn (position a none) (record { tag = tag; content = content }) xs
-changed (void tag n) a xs = takeOut tag n xs
-changed (relocate target targetBase) a xs = xs
+changed (toAddAligned tag content exponent) a xs = putIn (position a none) (record { tag = tag; content = content }) xs
+changed (toVoid tag n) a xs = takeOut tag n xs
+changed (toRelocate target targetBase) a xs = xs
 
 -- ---- the named bytes
 
+-- the bytes from one place up to another, which is not among them
 pub record Stretch : Type 0 where
   pub from : ℕ
-  pub size : ℕ
+  pub to : ℕ
 
--- "of a void taken, its first align8(8 + n) bytes and the eight header bytes of the void written behind them, if any; at
--- used_size, the bytes from the old used to the new"
-abbrev pub addStretch : List ℕ → ℕ → Option Entry → Stretch
-addStretch a n (some e) = record { from = e .at; size = entrySpan n + length (voidBehind (e .«data_size») n) }
-addStretch a n none = record { from = headerOf a .«used_size»; size = entrySpan n }
+-- n bytes from a place on
+abbrev pub bytesFrom : ℕ → ℕ → Stretch
+bytesFrom from n = record { from = from; to = from + n }
+
+-- "at used_size, the bytes from the old used to the new"; how far used grows is settled by `run`
+abbrev pub oldUsedToNew : List ℕ → List ℕ → Stretch
+oldUsedToNew a after = record { from = headerOf a .«used_size»; to = headerOf after .«used_size» }
+
+-- "of a void taken, its first align8(8 + n) bytes and the eight header bytes of the void written behind them, if any"
+abbrev pub addStretch : List ℕ → List ℕ → ℕ → Option Entry → Stretch
+addStretch a after n (some e) = bytesFrom (e .at) (entrySpan n + length (voidBehind (e .«data_size») n))
+addStretch a after n none = oldUsedToNew a after
 
 -- "of a voided entry, align8(8 + old data_size) bytes from its start"
 abbrev pub voidStretch : Option Entry → Stretch
-voidStretch (some e) = record { from = e .at; size = align8 (entryHeaderSize + e .«data_size») }
-voidStretch none = record { from = 0; size = 0 }
+voidStretch (some e) = bytesFrom (e .at) (entrySpan (e .«data_size»))
+voidStretch none = bytesFrom 0 0
 
--- the stretch of the entries written or voided; a relocation has none
-abbrev pub stretch : Edit → List ℕ → ℕ → Stretch
-stretch (add tag content useVoids) a base = addStretch a (length content) (takenVoid useVoids (length content) a)
-stretch (addAligned tag content exponent) a base =
-    record { from = headerOf a .«used_size»; size = length (alignedBytes a base tag content exponent) }
-stretch (void tag n) a base = voidStretch (occurrence tag n (entriesOf a))
-stretch (relocate target targetBase) a base = record { from = 0; size = 0 }
+-- "4, 7 and 8 to 11 of the header"
+abbrev pub headerStretches : List Stretch
+headerStretches = bytesFrom checksumAt 1 ∷ bytesFrom alignmentAt 1 ∷ bytesFrom usedAt 4 ∷ []
 
--- i is one of the `size` places from `from` on
+-- the named bytes of the edit of the list a that gives the list after; "in a relocation, of the used bytes only 4 and 12 to 15"
+abbrev pub stretches : Edit → List ℕ → List ℕ → List Stretch
+stretches (toAdd tag content useVoids) a after =
+    addStretch a after (length content) (takenVoid useVoids (length content) a) ∷ headerStretches
+stretches (toAddAligned tag content exponent) a after = oldUsedToNew a after ∷ headerStretches
+stretches (toVoid tag n) a after = voidStretch (occurrence tag n (entriesOf a)) ∷ headerStretches
+stretches (toRelocate target targetBase) a after = bytesFrom checksumAt 1 ∷ bytesFrom totalAt 4 ∷ []
+
+-- i is a place of a stretch
 abbrev pub within : Stretch → ℕ → Bool
-within s i = leb (s .from) i && ltb i (s .from + s .size)
+within s i = leb (s .from) i && ltb i (s .to)
 
--- "4, 7 and 8 to 11 of the header"; "in a relocation, of the used bytes only 4 and 12 to 15"
-abbrev pub namedInHeader : Edit → ℕ → Bool
-namedInHeader (relocate target targetBase) i = eqb i 4 || leb 12 i && leb i 15
-namedInHeader (add tag content useVoids) i = eqb i 4 || eqb i 7 || leb 8 i && leb i 11
-namedInHeader (addAligned tag content exponent) i = eqb i 4 || eqb i 7 || leb 8 i && leb i 11
-namedInHeader (void tag n) i = eqb i 4 || eqb i 7 || leb 8 i && leb i 11
+-- i is a place of one of them
+unfoldable pub named : List Stretch → ℕ → Bool
+named [] i = false
+named (s ∷ ss) i = within s i || named ss i
 
-unfoldable pub named : Edit → List ℕ → ℕ → ℕ → Bool
-named e a base i = namedInHeader e i || within (stretch e a base) i
-
--- the bytes that are compared with the given list's: all of the area, in a relocation the used bytes
-abbrev pub compared : Edit → List ℕ → ℕ
-compared (relocate target targetBase) a = headerOf a .«used_size»
-compared (add tag content useVoids) a = length a
-compared (addAligned tag content exponent) a = length a
-compared (void tag n) a = length a
+-- the bytes that are compared with the given list's: all of the area; of an edit into a target the used bytes
+abbrev pub compared : Destination → List ℕ → ℕ
+compared inPlace a = length a
+compared (into target targetBase) a = headerOf a .«used_size»
 
 -- ---- data addresses
 
@@ -119,12 +138,10 @@ abbrev pub addressesModulo : ℕ → ℕ → List ℕ → List ℕ
 addressesModulo m base a = map (λ (e : Entry). (base + dataOffset e) % m) (entriesOf a)
 
 -- after a relocation each equals the old one modulo 2^alignment
-abbrev pub KeepsAddresses : Edit → List ℕ → ℕ → List ℕ → ℕ → Type 0
-KeepsAddresses (relocate target targetBase) a base after newBase =
+abbrev pub KeepsAddresses : Destination → List ℕ → ℕ → List ℕ → ℕ → Type 0
+KeepsAddresses inPlace a base after newBase = Unit
+KeepsAddresses (into target targetBase) a base after newBase =
     addressesModulo (2 ^ headerOf a .alignment) newBase after ≡ addressesModulo (2 ^ headerOf a .alignment) base a
-KeepsAddresses (add tag content useVoids) a base after newBase = Unit
-KeepsAddresses (addAligned tag content exponent) a base after newBase = Unit
-KeepsAddresses (void tag n) a base after newBase = Unit
 
 -- ---- the demand
 
@@ -134,22 +151,19 @@ pub record AcceptedV1 (a : List ℕ) (base : ℕ) : Type 0 where
   pub accepted : check a base ≡ Accepted facts
   pub version : facts .version ≡ currentVersion
 
--- the bytes lent for writing, as they were
-abbrev pub lent : Edit → List ℕ → List ℕ
-lent (relocate target targetBase) a = target
-lent (add tag content useVoids) a = a
-lent (addAligned tag content exponent) a = a
-lent (void tag n) a = a
+-- what holds, all at once, of the edit e of the list a at base that gives the list after at newBase
+pub record Kept (e : Edit) (a : List ℕ) (base : ℕ) (after : List ℕ) (newBase : ℕ) : Type 0 where
+  pub again : AcceptedV1 after newBase
+  pub checksum : getD after checksumAt 0 ≡ freshChecksum after
+  pub flags : headerOf after .flags ≡ headerOf a .flags
+  pub live : reading after ≡ changed e a (reading a)
+  pub others : (i : ℕ) → i < compared (destination e) a → named (stretches e a after) i ≡ false → getD after i 0 ≡ getD a i 0
+  pub addresses : KeepsAddresses (destination e) a base after newBase
 
--- what holds, all at once, of the edit e of the list a at base that answers `value` and leaves `bytes`
+-- and of an edit that answers `value` and leaves `bytes`: as many bytes are lent afterwards as before
 pub record Holds (e : Edit) (a : List ℕ) (base value : ℕ) (bytes : List ℕ) : Type 0 where
-  pub again : AcceptedV1 (resultArea e value bytes) (resultBase e base value)
-  pub checksum : getD (resultArea e value bytes) checksumAt 0 ≡ freshChecksum (resultArea e value bytes)
-  pub flags : headerOf (resultArea e value bytes) .flags ≡ headerOf a .flags
-  pub live : reading (resultArea e value bytes) ≡ changed e a (reading a)
-  pub others : (i : ℕ) → i < compared e a → named e a base i ≡ false → getD (resultArea e value bytes) i 0 ≡ getD a i 0
-  pub size : length bytes ≡ length (lent e a)
-  pub addresses : KeepsAddresses e a base (resultArea e value bytes) (resultBase e base value)
+  pub result : Kept e a base (resultArea (destination e) value bytes) (resultBase (destination e) base value)
+  pub size : length bytes ≡ length (lent (destination e) a)
 
 -- Demand 3: of every edit of every accepted version 1 list, at every base, that is not refused
 abbrev pub Demand3 : Type 0
@@ -162,3 +176,12 @@ Demand3 =
 -- the same of a call's answer in numbers and of the lent bytes afterwards: where the number is 0, all of it holds
 abbrev pub Keeps : Edit → List ℕ → ℕ → DoneAnswer → List ℕ → Type 0
 Keeps e a base r bytes = r .number ≡ 0 → Holds e a base (r .value) bytes
+
+-- ---- what a call is promised to do
+
+-- the call that makes the edit e of the list a at base answers r and leaves the lent bytes as `bytes`: the answer is that of the
+-- written rules, so is every lent byte, and where the number is 0 all of demand 3 holds
+pub record Promised (e : Edit) (a : List ℕ) (base : ℕ) (r : DoneAnswer) (bytes : List ℕ) : Type 0 where
+  pub answered : r ≡ doneAnswer (answer (run e a base))
+  pub left : bytes ≡ bytesAfter (lent (destination e) a) (run e a base)
+  pub keeps : Keeps e a base r bytes

@@ -3,7 +3,7 @@ use Prim.Native.Nat.{ℕ, zero, suc, _+_, _-_}
 use mathlib.Core.Bool.{Bool, not, _&&_, _||_, cond}
 use mathlib.Core.List.{List, [], _∷_, _++_}
 use mathlib.Core.Option.{Option, none, some}
-use lib.Dec.{leb, ltb, eqb}
+use lib.Dec.{ltb, eqb}
 use Rattle.wire.specs.Bytes.{field, leBytes}
 use Rattle.rules.specs.declared.Header.{Header}
 use Rattle.rules.specs.declared.Entry.{Entry}
@@ -30,7 +30,7 @@ span e = align8 (e .«hdr_size» + e .«data_size»)
 abbrev pub dataOffset : Entry → ℕ
 dataOffset e = e .at + e .«hdr_size»
 
--- a header size is not the own one in version 1, or is under it above version 1
+-- a header size, a list's or an entry's, is not `own` (version 1) or is under it (above)
 abbrev pub wrongHeaderSize : ℕ → ℕ → ℕ → Bool
 wrongHeaderSize version own size = eqb version currentVersion && not (eqb size own) || not (eqb version currentVersion) && ltb size own
 
@@ -67,9 +67,15 @@ walkFrom version a used at = walkIn (used - at) version a used at
 abbrev pub firstEntry : Header → ℕ
 firstEntry h = align8 (h .«hdr_size»)
 
-unfoldable pub walk : List ℕ → Walk
-walk a = walkFrom (headerOf a .version) a (headerOf a .«used_size») (firstEntry (headerOf a))
+-- the walk of a list whose header is h
+abbrev pub walkOf : Header → List ℕ → Walk
+walkOf h a = walkFrom (h .version) a (h .«used_size») (firstEntry h)
 
+-- the walk of a list by its own header
+unfoldable pub walk : List ℕ → Walk
+walk a = walkOf (headerOf a) a
+
+-- the entries that a walk gives, none where it is broken
 abbrev pub seen : Walk → List Entry
 seen (entries es) = es
 seen (broken at) = []
@@ -78,11 +84,12 @@ seen (broken at) = []
 unfoldable pub entriesOf : List ℕ → List Entry
 entriesOf a = seen (walk a)
 
--- the numbers of live and of void entries
+-- the number of live entries
 unfoldable pub liveCount : List Entry → ℕ
 liveCount [] = 0
 liveCount (e ∷ es) = cond (isVoid e) (liveCount es) (1 + liveCount es)
 
+-- and of void ones
 unfoldable pub voidCount : List Entry → ℕ
 voidCount [] = 0
 voidCount (e ∷ es) = cond (isVoid e) (1 + voidCount es) (voidCount es)

@@ -5,7 +5,6 @@ use mathlib.Core.List.{List, []}
 use mathlib.Core.Option.{Option, none, some}
 use lib.ListN.{take, drop}
 use Rattle.rules.specs.declared.Entry.{Entry}
-use Rattle.rules.specs.declared.Facts.{Facts}
 use Rattle.rules.specs.declared.Checked.{Checked}
 use Rattle.rules.specs.declared.Checked.the-variants.{Accepted, Refused}
 use Rattle.rules.specs.declared.Refusal.the-variants.{Tag, None}
@@ -38,6 +37,11 @@ partAt a (found.Refused r) = []
 
 unfoldable pub findData : List ℕ → ℕ → ℕ → ℕ → List ℕ
 findData a base tag n = partAt a (find a base tag n)
+
+-- where that part starts, counted from the start of the area; of a refused find at the start
+abbrev pub partOffset : Found → ℕ
+partOffset (found.At offset size) = offset
+partOffset (found.Refused r) = 0
 
 -- the answer in numbers
 abbrev pub findAnswer : Found → FindAnswer

@@ -1,9 +1,9 @@
 -- Document 01, "Header and entries": the header's fields and its own numbers.
 use Prim.Native.Nat.{ℕ, _+_, _%_}
-use mathlib.Core.Bool.{Bool, true, false, cond}
-use mathlib.Core.List.{List, [], _∷_, _++_}
+use mathlib.Core.Bool.{Bool, cond}
+use mathlib.Core.List.{List, _++_}
 use lib.Dec.{eqb}
-use Rattle.wire.specs.Bytes.{field, leBytes}
+use Rattle.wire.specs.Bytes.{field, leBytes, splice}
 use Rattle.rules.specs.declared.Header.{Header}
 
 -- the header's own numbers: 24 bytes, version 1, alignment 3 when new, smallest entry header 8; and its signature
@@ -22,20 +22,43 @@ entryHeaderSize = 8
 abbrev pub signature : ℕ
 signature = 0x4a0fb10b
 
+-- the offsets of the fields that an edit may change
+abbrev pub checksumAt : ℕ
+checksumAt = 4
+
+abbrev pub alignmentAt : ℕ
+alignmentAt = 7
+
+abbrev pub usedAt : ℕ
+usedAt = 8
+
+abbrev pub totalAt : ℕ
+totalAt = 12
+
 -- the table of fields: offset and number of bytes, little-endian
 unfoldable pub headerOf : List ℕ → Header
 headerOf a =
     record {
       signature = field a 0 4;
-      checksum = field a 4 1;
+      checksum = field a checksumAt 1;
       version = field a 5 1;
       «hdr_size» = field a 6 1;
-      alignment = field a 7 1;
-      «used_size» = field a 8 4;
-      «total_size» = field a 12 4;
+      alignment = field a alignmentAt 1;
+      «used_size» = field a usedAt 4;
+      «total_size» = field a totalAt 4;
       flags = field a 16 4;
       reserved = field a 20 4;
     }
+
+-- the bytes of a list with another alignment, used_size or total_size
+abbrev pub withAlignment : ℕ → List ℕ → List ℕ
+withAlignment exponent a = splice a alignmentAt (leBytes 1 exponent)
+
+abbrev pub withUsed : ℕ → List ℕ → List ℕ
+withUsed used a = splice a usedAt (leBytes 4 used)
+
+abbrev pub withTotal : ℕ → List ℕ → List ℕ
+withTotal total a = splice a totalAt (leBytes 4 total)
 
 -- flags, bit 0 is has_checksum
 abbrev pub hasChecksum : Header → Bool

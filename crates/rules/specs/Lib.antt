@@ -4,6 +4,7 @@ pub mod Area
 pub mod Header
 pub mod Entries
 pub mod Checksum
+pub mod Edition
 pub mod Refusals
 pub mod Tags
 pub mod Check
@@ -16,5 +17,3 @@ pub mod Void
 pub mod Relocate
 pub mod Edit
 pub mod Demand3
--- Not a part of the paper.
-pub mod Methods

@@ -1,9 +1,8 @@
 -- Document 01, "When a call is turned away": the fourteen refusals, each with its number and exactly when it comes.
--- 8 ENTRY is the walk's (Entries), 13 NONE and 14 ROOM are each operation's own.
+-- 8 ENTRY is the walk's (Entries), 10 SHAPE the tag table's (Tags), 13 NONE and 14 ROOM are each operation's own.
 use Prim.Native.Nat.{ℕ, _+_}
 use mathlib.Core.Bool.{Bool, not, _&&_, _||_}
 use mathlib.Core.List.{List}
-use lib.ListN.{length}
 use lib.Dec.{leb, ltb, eqb}
 use Rattle.rules.specs.declared.Refusal.{Refusal}
 use Rattle.rules.specs.declared.Refusal.the-variants.{
@@ -23,9 +22,9 @@ use Rattle.rules.specs.declared.Refusal.the-variants.{
   Room,
 }
 use Rattle.rules.specs.Area.{align8, multiple8, usable, maxLength, maxAlignment, maxAddress}
-use Rattle.rules.specs.Header.{headerOf, headerSize, currentVersion, leastAlignment, signature}
+use Rattle.rules.specs.Header.{headerSize, currentVersion, leastAlignment}
 use Rattle.rules.specs.Entries.{wrongHeaderSize}
-use Rattle.rules.specs.Checksum.{checksumHolds}
+use Rattle.rules.specs.Edition.{Edition}
 use Rattle.rules.specs.declared.Header.{Header}
 
 -- the table's numbers and names
@@ -49,16 +48,16 @@ numberOf Room = 14
 abbrev pub refusesArea : ℕ → ℕ → Bool
 refusesArea base len = not (usable base len)
 
--- 2: L is under 24; for create, L is 24 or less
-abbrev pub refusesShort : ℕ → Bool
-refusesShort len = ltb len headerSize
+-- 2: L is under 24, the edition's header size; for create, L is 24 or less
+abbrev pub refusesShort : Edition → ℕ → Bool
+refusesShort ed len = ltb len (ed .headerSize)
 
 abbrev pub refusesShortCreate : ℕ → Bool
 refusesShortCreate len = leb len headerSize
 
 -- 3: the signature differs
-abbrev pub refusesSignature : Header → Bool
-refusesSignature h = not (eqb (h .signature) signature)
+abbrev pub refusesSignature : Edition → Header → Bool
+refusesSignature ed h = not (eqb (h .signature) (ed .signature))
 
 -- 4: version is 0
 abbrev pub refusesVersion : Header → Bool
@@ -68,15 +67,15 @@ refusesVersion h = eqb (h .version) 0
 abbrev pub refusesReadonly : Bool → Header → Bool
 refusesReadonly editing h = editing && ltb currentVersion (h .version)
 
--- the range of alignments
+-- an alignment is outside 3 to 12
 abbrev pub outsideAlignment : ℕ → Bool
 outsideAlignment a = ltb a leastAlignment || ltb maxAlignment a
 
--- 6: hdr_size is not 24 (version 1) or is under 24 (above); alignment is outside 3 to 12; used or total is no multiple of 8; used
--- is under align8(hdr_size); used exceeds total; total exceeds L
-abbrev pub refusesSizes : Header → ℕ → Bool
-refusesSizes h len =
-    wrongHeaderSize (h .version) headerSize (h .«hdr_size»)
+-- 6: hdr_size is not 24 (version 1) or is under 24 (above), 24 being the edition's header size; alignment is outside 3 to 12; used or
+-- total is no multiple of 8; used is under align8(hdr_size); used exceeds total; total exceeds L
+abbrev pub refusesSizes : Edition → Header → ℕ → Bool
+refusesSizes ed h len =
+    wrongHeaderSize (h .version) (ed .headerSize) (h .«hdr_size»)
     || outsideAlignment (h .alignment)
     || not (multiple8 (h .«used_size»))
     || not (multiple8 (h .«total_size»))
@@ -85,8 +84,8 @@ refusesSizes h len =
     || ltb len (h .«total_size»)
 
 -- 7: the checksum rule is broken
-abbrev pub refusesChecksum : List ℕ → Bool
-refusesChecksum a = not (checksumHolds a)
+abbrev pub refusesChecksum : Edition → List ℕ → Bool
+refusesChecksum ed a = not (ed .summed a)
 
 -- 9: tag is 0 or over 0xffffff; for both adds also 0x800000 to 0xffefff
 abbrev pub refusesTag : ℕ → Bool

@@ -6,11 +6,10 @@ use lib.ListN.{length, take, replicate}
 use lib.Dec.{ltb}
 use Rattle.rules.specs.declared.Refusal.the-variants.{Target, Room}
 use Rattle.rules.specs.Area.{down8}
-use Rattle.rules.specs.Header.{headerOf}
+use Rattle.rules.specs.Header.{headerOf, withTotal}
 use Rattle.rules.specs.Checksum.{seal}
 use Rattle.rules.specs.Refusals.{refusesTarget}
-use Rattle.rules.specs.Check.{admit}
-use Rattle.rules.specs.Outcome.{Outcome, refused, done, afterAdmission, withTotal}
+use Rattle.rules.specs.Outcome.{Outcome, refused, done}
 
 -- the address in the target base's own block of m bytes that equals the old base modulo m
 abbrev pub inBlock : ℕ → ℕ → ℕ → ℕ
@@ -29,17 +28,19 @@ shift a base targetBase = newBase (2 ^ headerOf a .alignment) base targetBase - 
 unfoldable pub moved : List ℕ → ℕ → List ℕ
 moved a room = seal (withTotal (down8 room) (take (headerOf a .«used_size») a))
 
--- "The used bytes go to the shift; .. every other target byte is 0."
+-- a target of len bytes with a list from the shift on: "every other target byte is 0"
+unfoldable pub inTarget : ℕ → ℕ → List ℕ → List ℕ
+inTarget len by list = replicate by 0 ++ (list ++ replicate (len - by - length list) 0)
+
+-- "The used bytes go to the shift"
 unfoldable pub targetBytes : List ℕ → ℕ → ℕ → List ℕ
-targetBytes a by len =
-    replicate by 0 ++ (moved a (len - by) ++ replicate (len - by - headerOf a .«used_size») 0)
+targetBytes a by len = inTarget len by (moved a (len - by))
 
 -- 14: shift + used exceeds the target length
 unfoldable pub moveTo : List ℕ → ℕ → ℕ → Outcome
 moveTo a by len = cond (ltb len (by + headerOf a .«used_size»)) (refused Room) (done by (targetBytes a by len))
 
--- after checks 1 to 8 and 12; answers the shift, and the lent bytes are the target's
+-- a relocation of a list that is admitted: 12, then the move; answers the shift, and the lent bytes are the target's
 unfoldable pub relocate : List ℕ → ℕ → List ℕ → ℕ → Outcome
 relocate a base target targetBase =
-    afterAdmission (admit a base)
-    (cond (refusesTarget targetBase (length target)) (refused Target) (moveTo a (shift a base targetBase) (length target)))
+    cond (refusesTarget targetBase (length target)) (refused Target) (moveTo a (shift a base targetBase) (length target))

@@ -1,45 +1,53 @@
 -- Document 01, "What a known tag may carry": the tag table, which only the two adds use (refusal 10).
 use Prim.Native.Nat.{ℕ}
-use mathlib.Core.Bool.{Bool, true, not, cond}
+use mathlib.Core.Bool.{Bool, false, _||_, cond}
 use mathlib.Core.List.{List, [], _∷_}
-use lib.Dec.{eqb}
+use mathlib.Core.Option.{Option, none, some}
+use lib.Dec.{ltb, eqb}
 
--- the data lengths that a row of the table allows
-pub data Lengths : Type 0 where
-  any : Lengths
-  exactly : ℕ → Lengths
-
+-- a row of the table: a tag, with the least and the greatest length of its data; none is no greatest
 pub record TagRow : Type 0 where
   pub tag : ℕ
-  pub lengths : Lengths
+  pub least : ℕ
+  pub most : Option ℕ
 
-abbrev row : ℕ → Lengths → TagRow
-row tag lengths = record { tag = tag; lengths = lengths }
+-- a tag that may carry any length
+abbrev any : ℕ → TagRow
+any tag = record { tag = tag; least = 0; most = none }
+
+-- a tag that carries exactly n bytes
+abbrev exactly : ℕ → ℕ → TagRow
+exactly n tag = record { tag = tag; least = n; most = some n }
 
 -- FDT, HOB block, HOB list, ACPI, TPM event log, TPM CRB base; OP-TEE pageable part, SPMC manifest, entry point, memory layout
 unfoldable pub tagTable : List TagRow
 tagTable =
-    row 1 any
-    ∷ row 2 any
-    ∷ row 3 any
-    ∷ row 4 any
-    ∷ row 5 any
-    ∷ row 6 (exactly 12)
-    ∷ row 0x100 (exactly 8)
-    ∷ row 0x101 any
-    ∷ row 0x102 any
-    ∷ row 0x104 (exactly 16)
+    any 1
+    ∷ any 2
+    ∷ any 3
+    ∷ any 4
+    ∷ any 5
+    ∷ exactly 12 6
+    ∷ exactly 8 0x100
+    ∷ any 0x101
+    ∷ any 0x102
+    ∷ exactly 16 0x104
     ∷ []
 
-abbrev pub allows : Lengths → ℕ → Bool
-allows any n = true
-allows (exactly k) n = eqb n k
+-- a length is over the greatest, where there is one
+abbrev pub exceeds : ℕ → Option ℕ → Bool
+exceeds n none = false
+exceeds n (some most) = ltb most n
+
+-- a length is not one that the row allows
+abbrev pub breaks : TagRow → ℕ → Bool
+breaks r n = ltb n (r .least) || exceeds n (r .most)
 
 -- "A tag not listed may carry any length."
-unfoldable pub allowedIn : List TagRow → ℕ → ℕ → Bool
-allowedIn [] tag n = true
-allowedIn (r ∷ rs) tag n = cond (eqb (r .tag) tag) (allows (r .lengths) n) (allowedIn rs tag n)
+unfoldable pub breaksTable : List TagRow → ℕ → ℕ → Bool
+breaksTable [] tag n = false
+breaksTable (r ∷ rs) tag n = cond (eqb (r .tag) tag) (breaks r n) (breaksTable rs tag n)
 
 -- 10: an add's data length breaks the tag table
 abbrev pub refusesShape : ℕ → ℕ → Bool
-refusesShape tag n = not (allowedIn tagTable tag n)
+refusesShape tag n = breaksTable tagTable tag n

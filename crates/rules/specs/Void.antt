@@ -10,8 +10,7 @@ use Rattle.rules.specs.Area.{align8}
 use Rattle.rules.specs.Entries.{entriesOf, occurrence}
 use Rattle.rules.specs.Checksum.{seal}
 use Rattle.rules.specs.Refusals.{refusesTag}
-use Rattle.rules.specs.Check.{admit}
-use Rattle.rules.specs.Outcome.{Outcome, refused, done, afterAdmission}
+use Rattle.rules.specs.Outcome.{Outcome, refused, done}
 use Rattle.rules.specs.AddAligned.{voidBytes}
 
 -- "turns occurrence n of a tag into a void of data_size align8(old data_size). Its data and old padding become 0."
@@ -20,7 +19,6 @@ abbrev pub voidAt : List ℕ → Option Entry → Outcome
 voidAt a (some e) = done (e .at) (seal (splice a (e .at) (voidBytes (align8 (e .«data_size»)))))
 voidAt a none = refused None
 
--- after checks 1 to 8 and 9; answers the voided entry's offset
-unfoldable pub void : List ℕ → ℕ → ℕ → ℕ → Outcome
-void a base tag n =
-    afterAdmission (admit a base) (cond (refusesTag tag) (refused Tag) (voidAt a (occurrence tag n (entriesOf a))))
+-- a void in a list that is admitted: 9, then the void; answers the voided entry's offset
+unfoldable pub void : List ℕ → ℕ → ℕ → Outcome
+void a tag n = cond (refusesTag tag) (refused Tag) (voidAt a (occurrence tag n (entriesOf a)))

@@ -3,7 +3,6 @@ ghost use mathlib.Core.Path.{_≡_};
 ghost use Rattle.rules.specs.Header.{freshHeader};
 ghost use Rattle.rules.specs.Refusals.{numberOf};
 ghost use Rattle.rules.specs.Check.{checkAnswer};
-ghost use Rattle.rules.specs.Methods.{refusalOf};
 ghost use Rattle.rules.specs.Find.{findAnswer};
 ghost use Rattle.rules.specs.Outcome.{doneAnswer};
 
@@ -14,7 +13,7 @@ pub const MAX_LENGTH: usize = 65536;
 pub const MAX_ALIGNMENT: u8 = 12;
 
 // No area reaches above this address.
-pub const MAX_ADDRESS: u64 = 281474976710656;
+pub const MAX_ADDRESS: u64 = 0x1_0000_0000_0000;
 
 // The header of a list, field by field.
 pub struct Header {
@@ -76,7 +75,7 @@ pub enum Refusal {
     Sizes,
     Checksum,
     // With the place of the first entry that breaks a rule.
-    Entry(usize),
+    Entry(u32),
     Tag,
     Shape,
     Align,
@@ -87,7 +86,7 @@ pub enum Refusal {
 
 impl Refusal {
     // The refusal's number in the table.
-    pub fn number(self) -> u32
+    pub(crate) fn number(self) -> u32
         ensures { λ r. ⌜ r ≡ numberOf self ⌝ }
     {
         match self {
@@ -163,16 +162,6 @@ pub struct DoneAnswer {
 }
 
 impl Checked {
-    // Why the check refused.
-    pub fn refusal(self) -> Refusal
-        ensures { λ r. ⌜ r ≡ refusalOf self ⌝ }
-    {
-        match self {
-            Checked::Accepted(_) => Refusal::Area,
-            Checked::Refused(r) => r,
-        }
-    }
-
     // The answer in numbers.
     pub fn numbers(self) -> CheckAnswer
         ensures { λ r. ⌜ r ≡ checkAnswer self ⌝ }

@@ -1,5 +1,6 @@
-// The functions that are shipped, for C. Each is thin and has the whole statement: no requires, an equation for the answer and one for
-// each buffer that is lent for writing. The last clause of each edit is demand 3: where the number is 0, all of it holds.
+// The functions that are shipped: for C, and find's second form for Rattle. Each is thin and has the whole statement: no requires, an
+// equation for the answer and one for each buffer that is lent for writing. What an edit is promised to do is one record, `Promised`:
+// its answer is that of the written rules, so is every lent byte afterwards, and where the number is 0 all of demand 3 holds.
 use create::create;
 use edit::edits;
 use relocate::relocate;
@@ -9,12 +10,13 @@ use rules::FindAnswer;
 use walk::check;
 use walk::find;
 ghost use mathlib.Core.Path.{_≡_};
+ghost use Prim.Native.Nat.{_+_};
 ghost use Rattle.rules.specs.Check.{check as checkRule, checkAnswer};
-ghost use Rattle.rules.specs.Find.{find as findRule, findAnswer};
+ghost use Rattle.rules.specs.Find.{find as findRule, findAnswer, findData, partOffset};
 ghost use Rattle.rules.specs.Outcome.{answer, bytesAfter, doneAnswer};
 ghost use Rattle.rules.specs.Create.{create as createRule};
-ghost use Rattle.rules.specs.Edit.{run, add, addAligned, void, relocate as relocateEdit};
-ghost use Rattle.rules.specs.Demand3.{Keeps};
+ghost use Rattle.rules.specs.Edit.{toAdd, toAddAligned, toVoid, toRelocate};
+ghost use Rattle.rules.specs.Demand3.{Promised};
 
 // Checks the list in area, which stands at base.
 #[no_mangle]
@@ -30,6 +32,16 @@ pub extern "C" fn tl_find(area: &[u8], base: u64, tag: u32, n: u64) -> FindAnswe
     ensures { λ r. ⌜ r ≡ findAnswer (findRule (now (area .entry)) base tag n) ⌝ }
 {
     find::find(area, base, tag, n).numbers()
+}
+
+// The data itself, as a part of the caller's area; the empty part where find refuses. C has no such result: there the header's tl_data
+// makes a pointer of tl_find's answer.
+pub fn tl_find_data(area: &[u8], base: u64, tag: u32, n: u64) -> &[u8]
+    ensures { λ r. ⌜ now r ≡ findData (now (area .entry)) base tag n ⌝ }
+    ensures { λ r. ⌜ r .ptr .0 ≡ area .entry .ptr .0 ⌝ }
+    ensures { λ r. ⌜ r .ptr .1 ≡ area .entry .ptr .1 + partOffset (findRule (now (area .entry)) base tag n) ⌝ }
+{
+    find::find_data(area, base, tag, n)
 }
 
 // Writes a new list without entries. Answers the total.
@@ -50,9 +62,7 @@ pub extern "C" fn tl_add(
     data: &[u8],
     use_voids: bool,
 ) -> DoneAnswer
-    ensures { λ r. ⌜ r ≡ doneAnswer (answer (run (add tag (now («data» .entry)) «use_voids») (now (area .entry)) base)) ⌝ }
-    ensures { λ _. ⌜ now (area .exit) ≡ bytesAfter (now (area .entry)) (run (add tag (now («data» .entry)) «use_voids») (now (area .entry)) base) ⌝ }
-    ensures { λ r. ⌜ Keeps (add tag (now («data» .entry)) «use_voids») (now (area .entry)) base r (now (area .exit)) ⌝ }
+    ensures { λ r. ⌜ Promised (toAdd tag (now («data» .entry)) «use_voids») (now (area .entry)) base r (now (area .exit)) ⌝ }
 {
     edits::add(area, base, tag, data, use_voids).numbers()
 }
@@ -66,9 +76,7 @@ pub extern "C" fn tl_add_aligned(
     data: &[u8],
     exponent: u32,
 ) -> DoneAnswer
-    ensures { λ r. ⌜ r ≡ doneAnswer (answer (run (addAligned tag (now («data» .entry)) exponent) (now (area .entry)) base)) ⌝ }
-    ensures { λ _. ⌜ now (area .exit) ≡ bytesAfter (now (area .entry)) (run (addAligned tag (now («data» .entry)) exponent) (now (area .entry)) base) ⌝ }
-    ensures { λ r. ⌜ Keeps (addAligned tag (now («data» .entry)) exponent) (now (area .entry)) base r (now (area .exit)) ⌝ }
+    ensures { λ r. ⌜ Promised (toAddAligned tag (now («data» .entry)) exponent) (now (area .entry)) base r (now (area .exit)) ⌝ }
 {
     edits::add_aligned(area, base, tag, data, exponent).numbers()
 }
@@ -76,9 +84,7 @@ pub extern "C" fn tl_add_aligned(
 // Turns occurrence n of a tag into a void. Answers the voided entry's offset.
 #[no_mangle]
 pub extern "C" fn tl_void(area: &mut [u8], base: u64, tag: u32, n: u64) -> DoneAnswer
-    ensures { λ r. ⌜ r ≡ doneAnswer (answer (run (void tag n) (now (area .entry)) base)) ⌝ }
-    ensures { λ _. ⌜ now (area .exit) ≡ bytesAfter (now (area .entry)) (run (void tag n) (now (area .entry)) base) ⌝ }
-    ensures { λ r. ⌜ Keeps (void tag n) (now (area .entry)) base r (now (area .exit)) ⌝ }
+    ensures { λ r. ⌜ Promised (toVoid tag n) (now (area .entry)) base r (now (area .exit)) ⌝ }
 {
     edits::void(area, base, tag, n).numbers()
 }
@@ -91,9 +97,7 @@ pub extern "C" fn tl_relocate(
     target: &mut [u8],
     target_base: u64,
 ) -> DoneAnswer
-    ensures { λ r. ⌜ r ≡ doneAnswer (answer (run (relocateEdit (now (target .entry)) «target_base») (now (area .entry)) base)) ⌝ }
-    ensures { λ _. ⌜ now (target .exit) ≡ bytesAfter (now (target .entry)) (run (relocateEdit (now (target .entry)) «target_base») (now (area .entry)) base) ⌝ }
-    ensures { λ r. ⌜ Keeps (relocateEdit (now (target .entry)) «target_base») (now (area .entry)) base r (now (target .exit)) ⌝ }
+    ensures { λ r. ⌜ Promised (toRelocate (now (target .entry)) «target_base») (now (area .entry)) base r (now (target .exit)) ⌝ }
 {
     relocate::relocate(area, base, target, target_base).numbers()
 }

@@ -1,9 +1,7 @@
 // Runs the paper's examples A to N on real bytes and prints what the functions answer and leave; the file stdout holds what the paper
-// says. A line: the example, the call, the answer's numbers, and the bytes: of a find the data, of create and an edit the whole area.
-use rules::CheckAnswer;
+// says. A line: the example, the call, the answer's numbers, and the bytes: of a find the data, of create and an edit the whole area or
+// target, of two large areas the first 24 bytes.
 use rules::Done;
-use rules::DoneAnswer;
-use rules::FindAnswer;
 
 fn number(n: u32) {
     io::write_all(1, b" ");
@@ -41,7 +39,7 @@ fn show_find(example: &[u8], area: &[u8], base: u64, tag: u32, n: u64) {
     number(a.number);
     number(a.offset);
     number(a.size);
-    show_bytes(walk::find::find_data(area, base, tag, n));
+    show_bytes(transfer_list::tl_find_data(area, base, tag, n));
     io::write_all(1, b"\n");
 }
 
@@ -157,6 +155,33 @@ fn example_i() {
     show_first(b"I create", large, &over);
 }
 
+// A new list without a checksum, with another alignment field.
+fn example_j(example: &[u8], alignment: u8) {
+    let mut area = [0u8; 64];
+    create::create(&mut area, 0x1000, false);
+    area[7] = alignment;
+    show_check(example, &area, 0x1000);
+}
+
+// An entry whose data_size is 0xffffffff.
+fn example_k() {
+    let mut area = [0u8; 64];
+    create::create(&mut area, 0x1000, false);
+    edit::edits::add(&mut area, 0x1000, 1, b"\xaa\xbb\xcc", false);
+    area[28] = 0xff;
+    area[29] = 0xff;
+    area[30] = 0xff;
+    area[31] = 0xff;
+    show_check(b"K", &area, 0x1000);
+}
+
+// Used 24: no entries.
+fn example_m() {
+    let mut area = [0u8; 64];
+    create::create(&mut area, 0x1000, true);
+    show_check(b"M", &area, 0x1000);
+}
+
 // Version 2 with a bad checksum: add says READONLY, check says CHECKSUM.
 fn example_n() {
     let mut area = [0u8; 64];
@@ -177,35 +202,11 @@ fn main() {
     example_g();
     example_h();
     example_i();
-    show_check(
-        b"J2",
-        b"\x0b\xb1\x0f\x4a\xbd\x01\x18\x02\x18\x00\x00\x00\x40\x00\x00\x00\x01\x00\x00\x00\x00\x00\x00\x00\x00\x00\x00\x00\x00\x00\x00\x00\x00\x00\x00\x00\x00\x00\x00\x00\x00\x00\x00\x00\x00\x00\x00\x00\x00\x00\x00\x00\x00\x00\x00\x00\x00\x00\x00\x00\x00\x00\x00\x00",
-        0x1000,
-    );
-    show_check(
-        b"J13",
-        b"\x0b\xb1\x0f\x4a\xb2\x01\x18\x0d\x18\x00\x00\x00\x40\x00\x00\x00\x01\x00\x00\x00\x00\x00\x00\x00\x00\x00\x00\x00\x00\x00\x00\x00\x00\x00\x00\x00\x00\x00\x00\x00\x00\x00\x00\x00\x00\x00\x00\x00\x00\x00\x00\x00\x00\x00\x00\x00\x00\x00\x00\x00\x00\x00\x00\x00",
-        0x1000,
-    );
-    show_check(
-        b"J3",
-        b"\x0b\xb1\x0f\x4a\xbc\x01\x18\x03\x18\x00\x00\x00\x40\x00\x00\x00\x01\x00\x00\x00\x00\x00\x00\x00\x00\x00\x00\x00\x00\x00\x00\x00\x00\x00\x00\x00\x00\x00\x00\x00\x00\x00\x00\x00\x00\x00\x00\x00\x00\x00\x00\x00\x00\x00\x00\x00\x00\x00\x00\x00\x00\x00\x00\x00",
-        0x1000,
-    );
-    show_check(
-        b"J12",
-        b"\x0b\xb1\x0f\x4a\xb3\x01\x18\x0c\x18\x00\x00\x00\x40\x00\x00\x00\x01\x00\x00\x00\x00\x00\x00\x00\x00\x00\x00\x00\x00\x00\x00\x00\x00\x00\x00\x00\x00\x00\x00\x00\x00\x00\x00\x00\x00\x00\x00\x00\x00\x00\x00\x00\x00\x00\x00\x00\x00\x00\x00\x00\x00\x00\x00\x00",
-        0x1000,
-    );
-    show_check(
-        b"K",
-        b"\x0b\xb1\x0f\x4a\x58\x01\x18\x03\x28\x00\x00\x00\x40\x00\x00\x00\x01\x00\x00\x00\x00\x00\x00\x00\x01\x00\x00\x08\xff\xff\xff\xff\xaa\xbb\xcc\x00\x00\x00\x00\x00\x00\x00\x00\x00\x00\x00\x00\x00\x00\x00\x00\x00\x00\x00\x00\x00\x00\x00\x00\x00\x00\x00\x00\x00",
-        0x1000,
-    );
-    show_check(
-        b"M",
-        b"\x0b\xb1\x0f\x4a\xbc\x01\x18\x03\x18\x00\x00\x00\x40\x00\x00\x00\x01\x00\x00\x00\x00\x00\x00\x00\x00\x00\x00\x00\x00\x00\x00\x00\x00\x00\x00\x00\x00\x00\x00\x00\x00\x00\x00\x00\x00\x00\x00\x00\x00\x00\x00\x00\x00\x00\x00\x00\x00\x00\x00\x00\x00\x00\x00\x00",
-        0x1000,
-    );
+    example_j(b"J2", 2);
+    example_j(b"J13", 13);
+    example_j(b"J3", 3);
+    example_j(b"J12", 12);
+    example_k();
+    example_m();
     example_n();
 }

@@ -1,39 +1,67 @@
--- The check goes on behind a good header, and answers the walk's counts.
-use mathlib.Core.Path.{_≡_, refl, sym}
+-- What the check of the header answers, and that the survey goes on with the walk behind a good one.
+use mathlib.Core.Path.{_≡_, refl}
 use Prim.Native.Nat.{ℕ, _≤_}
 use native.Mathlib.Omega.{arith}
-use native.Mathlib.Nat.{zero-add}
-use mathlib.Core.Bool.{Bool, true, false, not, cond}
+use mathlib.Core.Bool.{Bool}
 use mathlib.Core.List.{List}
+use mathlib.Core.Option.{Option, none, some}
 use lib.ListN.{length}
-use borrow.Author.Tests.{ltb-false}
 use Rattle.rules.specs.declared.Header.{Header}
-use Rattle.rules.specs.declared.Checked.{Checked}
-use Rattle.rules.specs.declared.Checked.the-variants as checked
 use Rattle.rules.specs.declared.Refusal.{Refusal}
-use Rattle.rules.specs.declared.Refusal.the-variants.{Area, Short, Signature, Version, Readonly, Sizes, Checksum, Entry}
-use Rattle.rules.specs.Header.{headerOf, headerSize}
-use Rattle.rules.specs.Entries.{Walk, entries, broken, walk}
-use Rattle.rules.specs.Checksum.{checksumHolds}
-use Rattle.rules.specs.Refusals.{refusesArea, refusesShort, refusesSignature, refusesVersion, refusesReadonly, refusesSizes}
-use Rattle.rules.specs.Check.{walked, checks}
-use Rattle.laws.proofs.Check.{Sizes as SizesHold, sizes, past}
-use Rattle.walk.specs.declared.header.Headed.{Headed}
+use Rattle.rules.specs.declared.Refusal.the-variants.{Entry}
+use Rattle.rules.specs.Header.{headerOf}
+use Rattle.rules.specs.Edition.{current}
+use Rattle.rules.specs.Entries.{Walk, entries, broken, firstEntry, seen}
+use Rattle.rules.specs.Check.{walked, headerRefusal}
+use Rattle.laws.proofs.Check as laws
 use Rattle.walk.specs.declared.header.Headed.the-variants.{Good, Refused}
 use Rattle.walk.specs.declared.cursor.Walked.{Walked}
 use Rattle.walk.specs.declared.cursor.Walked.the-variants.{Counts, Broken}
-use Rattle.walk.specs.Headed.{headed}
-use Rattle.walk.specs.Cursor.{tallyFrom, tally}
+use Rattle.walk.specs.declared.wanted.Wanted.{Wanted}
+use Rattle.walk.specs.declared.check.Surveyed.{Surveyed}
+use Rattle.walk.specs.declared.check.Surveyed.the-variants as survey
+use Rattle.walk.specs.Headed.{headed, headedOf}
+use Rattle.walk.specs.Wanted.{wantedOf, told}
+use Rattle.walk.specs.Survey.{surveyed}
 
--- a refused header is the answer; behind a good one the check goes on
-abbrev pub afterHeaded : Headed → Checked → Checked
-afterHeaded (Good h) x = x
-afterHeaded (Refused r) x = checked.Refused r
+-- ---- the header
 
--- the answer that a walk's counts give
-abbrev pub answered : Header → Walked → Checked
-answered h (Counts live voids) =
-    checked.Accepted
+module _ (h : Header) where
+  -- a good header was not refused
+  unrefused : (o : Option Refusal) (g : Header) → headed h o ≡ Good g → (o ≡ none) × (g ≡ h)
+  unrefused (some r) g k = absurd (let z : _≡_ {A = ℕ} 0 1 = cc in omega arith)
+  unrefused none g k = (refl, cc)
+
+  -- a refused one was
+  why : (o : Option Refusal) (r : Refusal) → headed h o ≡ Refused r → o ≡ some r
+  why (some q) r k = cc
+  why none r k = absurd (let z : _≡_ {A = ℕ} 0 1 = cc in omega arith)
+
+-- what a good header tells
+pub record GoodHeader (editing : Bool) (a : List ℕ) (base : ℕ) (h : Header) : Type 0 where
+  pub passed : headerRefusal current editing base (length a) (headerOf a) ≡ none
+  pub same : h ≡ headerOf a
+  pub first : firstEntry h ≤ h .«used_size»
+  pub used : h .«used_size» ≤ length a
+
+module _ (editing : Bool) (a : List ℕ) (base : ℕ) where
+  pub good-header : (h : Header) → headedOf editing a base ≡ Good h → GoodHeader editing a base h
+  good-header h k =
+      let p = unrefused (headerOf a) _ h k in
+      let z = laws.header-sound current editing base (length a) (headerOf a) (p .0) .0 .sizes in
+      record { passed = p .0; same = p .1; first = rw (p .1) (z .first); used = rw (p .1) (omega (arith, z .used, z .total)) }
+
+  -- and a refused one
+  pub bad-header : (r : Refusal) → headedOf editing a base ≡ Refused r
+      → headerRefusal current editing base (length a) (headerOf a) ≡ some r
+  bad-header r k = why (headerOf a) _ r k
+
+-- ---- the walk
+
+-- the answer that a walk gives
+abbrev pub answered : Header → Walked → Surveyed
+answered h (Counts live voids x) =
+    survey.Accepted
     (record {
       version = h .version;
       used = h .«used_size»;
@@ -42,62 +70,10 @@ answered h (Counts live voids) =
       live = live;
       voids = voids;
     })
-answered h (Broken at) = checked.Refused (Entry at)
+    h
+    x
+answered h (Broken at) = survey.Refused (Entry at)
 
--- the answer of a walk is that of its counts
-walked-tally : (h : Header) (w : Walk) → walked h w ≡ answered h (tally w)
-unfolding tallyFrom
-walked-tally h (entries es) = simp zero-add
-walked-tally h (broken at) = refl
-
--- the check is the header's part, then the checksum, then the walk
-pub checks-headed : (editing : Bool) (a : List ℕ) (base : ℕ) → checks editing a base ≡ afterHeaded (headed editing a base) (cond (not (checksumHolds a)) (checked.Refused Checksum) (answered (headerOf a) (tally (walk a))))
-unfolding checks headed
-checks-headed editing a base =
-    rw (← walked-tally (headerOf a) (walk a))
-    (go
-    (refusesArea base (length a))
-    (refusesShort (length a))
-    (refusesSignature (headerOf a))
-    (refusesVersion (headerOf a))
-    (refusesReadonly editing (headerOf a))
-    (refusesSizes (headerOf a) (length a))
-    (cond (not (checksumHolds a)) (checked.Refused Checksum) (walked (headerOf a) (walk a))))
-  where
-    go : (p q r s t u : Bool) (x : Checked)
-        → cond p (checked.Refused Area)
-        (cond q (checked.Refused Short)
-        (cond r (checked.Refused Signature)
-        (cond s (checked.Refused Version) (cond t (checked.Refused Readonly) (cond u (checked.Refused Sizes) x)))))
-        ≡ afterHeaded
-        (cond p (Refused Area)
-        (cond q (Refused Short)
-        (cond r (Refused Signature)
-        (cond s (Refused Version) (cond t (Refused Readonly) (cond u (Refused Sizes) (Good (headerOf a)))))))) x
-    go true q r s t u x = refl
-    go false true r s t u x = refl
-    go false false true s t u x = refl
-    go false false false true t u x = refl
-    go false false false false true u x = refl
-    go false false false false false true x = refl
-    go false false false false false false x = refl
-
--- what a good header tells
-pub record GoodHeader (a : List ℕ) (h : Header) : Type 0 where
-  pub long : headerSize ≤ length a
-  pub same : h ≡ headerOf a
-  pub sizes : SizesHold h (length a)
-
--- a header that is found good tells so
-pub good-header : (editing : Bool) (a : List ℕ) (base : ℕ) (h : Header) → headed editing a base ≡ Good h → GoodHeader a h
-unfolding headed
-good-header editing a base h k =
-    let never : (r : Refusal) → Refused r ≡ Good h → ⊥ = λ r e. (let z : _≡_ {A = ℕ} 0 1 = cc in omega arith) in
-    let p₁ = past (refusesArea base (length a)) _ _ _ (never _) k in
-    let p₂ = past (refusesShort (length a)) _ _ _ (never _) (p₁ .1) in
-    let p₃ = past (refusesSignature (headerOf a)) _ _ _ (never _) (p₂ .1) in
-    let p₄ = past (refusesVersion (headerOf a)) _ _ _ (never _) (p₃ .1) in
-    let p₅ = past (refusesReadonly editing (headerOf a)) _ _ _ (never _) (p₄ .1) in
-    let p₆ = past (refusesSizes (headerOf a) (length a)) _ _ _ (never _) (p₅ .1) in
-    let e : headerOf a ≡ h = cc (p₆ .1) in
-    record { long = ltb-false _ _ (p₂ .0); same = sym e; sizes = rw e at (sizes (headerOf a) (length a) (p₆ .0)) }
+pub walk-answers : (h : Header) (w : Wanted) (x : Walk) → surveyed h (wantedOf w (seen x)) (walked h x) ≡ answered h (told w x)
+walk-answers h w (entries es) = refl
+walk-answers h w (broken at) = refl

@@ -1,10 +1,10 @@
--- What a step of the cursor tells of the walk, and what an entry adds to the counts and to a search.
-use mathlib.Core.Path.{_≡_, refl, ap, subst}
+-- What a step of the cursor tells of the walk, and what an entry adds to the counts and to the memory.
+use mathlib.Core.Path.{_≡_, refl, subst}
 use Prim.Native.Nat.{ℕ, _+_, _-_, _≤_, _<_}
 use native.Mathlib.Omega.{arith}
+use native.Mathlib.Nat.{zero-add, add-zero}
 use mathlib.Core.Bool.{Bool, true, false, cond}
 use mathlib.Core.List.{List, [], _∷_}
-use mathlib.Core.Option.{some}
 use lib.Dec.{eqb}
 use borrow.Author.Tests.{eqb-true, eqb-false, eq-eqb, ne-eqb}
 use Rattle.rules.specs.declared.Entry.{Entry}
@@ -17,34 +17,38 @@ use Rattle.rules.specs.Entries.{
   span,
   badEntry,
   walkFrom,
-  seen,
   liveCount,
   voidCount,
-  occurrence,
 }
-use Rattle.laws.proofs.Walk.{Good, good, walk-end, walk-next, walk-broken}
-use Rattle.walk.specs.declared.cursor.Cursor.{Cursor}
+use Rattle.laws.proofs.Walk.{Bounded, bounded, walk-end, walk-next, walk-broken}
 use Rattle.walk.specs.declared.cursor.Step.{Step}
 use Rattle.walk.specs.declared.cursor.Step.the-variants.{Next, End, Broken}
-use Rattle.walk.specs.Cursor.{stepAt, tallyFrom, Unbroken}
+use Rattle.walk.specs.declared.cursor.Walked.{Walked}
+use Rattle.walk.specs.declared.cursor.Walked.the-variants as walked
+use Rattle.walk.specs.declared.wanted.Wanted.{Wanted}
+use Rattle.walk.specs.declared.wanted.Sought.{Sought}
+use Rattle.walk.specs.declared.wanted.Sought.the-variants.{At, Nothing}
+use Rattle.walk.specs.declared.wanted.Memory.{Memory}
+use Rattle.walk.specs.Cursor.{stepAt}
+use Rattle.walk.specs.Wanted.{wants, wantedIn, sought, told, forgetful, remembered}
 
 -- ---- the walk
 
 module _ (version : ℕ) (a : List ℕ) (used at : ℕ) where
   -- what a step tells: the walk ends, or is broken here, or goes on behind an entry of eight bytes or more
-  abbrev Told : Step → Type 0
-  Told End = walkFrom version a used at ≡ entries []
-  Told Broken = walkFrom version a used at ≡ broken at
-  Told (Next e d) =
+  abbrev pub Tells : Step → Type 0
+  Tells End = walkFrom version a used at ≡ entries []
+  Tells Broken = walkFrom version a used at ≡ broken at
+  Tells (Next e d) =
       (at + 8 ≤ d .at) × (d .at ≤ used) × (walkFrom version a used at ≡ follow e (walkFrom version a used (d .at)))
 
   -- each step tells the walk
-  pub step-tells : (x : Step) → at ≤ used → stepAt version a used at ≡ x → Told x
-  unfolding stepAt
-  step-tells x h k = subst Told k (go (eqb at used) (badEntry version (used - at) (entryAt a at)) refl refl)
+  pub step-tells : (x : Step) → at ≤ used → stepAt version a used at ≡ x → Tells x
+  unfolding stepAt entryAt
+  step-tells x h k = subst Tells k (go (eqb at used) (badEntry version (used - at) (entryAt a at)) refl refl)
     where
       go : (s b : Bool) → eqb at used ≡ s → badEntry version (used - at) (entryAt a at) ≡ b
-          → Told (cond s End (cond b Broken (Next (entryAt a at) (record { at = at + span (entryAt a at) }))))
+          → Tells (cond s End (cond b Broken (Next (entryAt a at) (record { at = at + span (entryAt a at) }))))
       go true b p q = let e : at ≡ used = eqb-true at used p in rw e (walk-end version a used)
       go false true p q =
           let n = eqb-false at used p in
@@ -53,62 +57,66 @@ module _ (version : ℕ) (a : List ℕ) (used at : ℕ) where
       go false false p q =
           let n = eqb-false at used p in
           let l : at < used = omega (arith, n) in
-          let g : Good (used - at) (entryAt a at) = good version (used - at) (entryAt a at) q in
+          let g : Bounded (used - at) (entryAt a at) = bounded version (used - at) (entryAt a at) q in
           (omega arith, omega arith, walk-next version a used at l q)
 
--- ---- counting
+-- ---- counting and remembering
 
-module _ (live voids : ℕ) (e : Entry) where
-  -- a void counts among the voids
-  pub tally-void : (w : Walk) → e .«tag_id» ≡ 0 → tallyFrom live voids (follow e w) ≡ tallyFrom live (voids + 1) w
-  unfolding tallyFrom liveCount voidCount
-  tally-void (entries es) h =
-      let n : voids + (1 + voidCount es) ≡ voids + 1 + voidCount es = omega arith in
-      simp (eq-eqb _ _ h, n)
-  tally-void (broken at) h = refl
+-- what was found before, or what the rest has
+abbrev orElse : Sought → Sought → Sought
+orElse (At e) x = At e
+orElse Nothing x = x
 
-  -- every other entry among the live ones
-  pub tally-live : (w : Walk) → (e .«tag_id» ≡ 0 → ⊥) → tallyFrom live voids (follow e w) ≡ tallyFrom (live + 1) voids w
-  unfolding tallyFrom liveCount voidCount
-  tally-live (entries es) h =
-      let n : live + (1 + liveCount es) ≡ live + 1 + liveCount es = omega arith in
-      simp (ne-eqb _ _ h, n)
-  tally-live (broken at) h = refl
+abbrev recalled : Wanted → Memory → List Entry → Sought
+recalled w m es = orElse (m .found) (sought (wantedIn (w .tag) (w .least) (m .left) es))
 
--- ---- searching
+-- what a walk tells behind entries that were counted and remembered
+unfoldable pub toldFrom : Wanted → ℕ → ℕ → Memory → Walk → Walked
+toldFrom w live voids m (entries es) = walked.Counts (live + liveCount es) (voids + voidCount es) (recalled w m es)
+toldFrom w live voids m (broken at) = walked.Broken at
 
--- what a step to the next entry tells of an unbroken walk: it goes on, and sees the entry and then the rest
-pub record Sees (version : ℕ) (a : List ℕ) (used at : ℕ) (e : Entry) (d : Cursor) : Type 0 where
-  pub moves : at + 8 ≤ d .at
-  pub within : d .at ≤ used
-  pub unbroken : Unbroken (walkFrom version a used (d .at))
-  pub sees : seen (walkFrom version a used at) ≡ e ∷ seen (walkFrom version a used (d .at))
+-- before the first entry that is all that it tells
+pub told-first : (w : Wanted) (x : Walk) → toldFrom w 0 0 (forgetful w) x ≡ told w x
+unfolding toldFrom
+told-first w (entries es) = simp zero-add
+told-first w (broken at) = refl
 
--- behind an entry of an unbroken walk the rest is unbroken too
-seen-next : (w : Walk) (e : Entry) (rest : Walk) → w ≡ follow e rest → Unbroken w → Unbroken rest × (seen w ≡ e ∷ seen rest)
-seen-next w e (entries es) h u = (tt, ap seen h)
-seen-next w e (broken at) h u = absurd (subst Unbroken h u)
+module _ (w : Wanted) (live voids : ℕ) (m : Memory) where
+  -- behind the last entry nothing is added
+  pub told-last : toldFrom w live voids m (entries []) ≡ walked.Counts live voids (m .found)
+  unfolding toldFrom liveCount voidCount wantedIn
+  told-last = go (m .found) refl
+    where
+      go : (x : Sought) → m .found ≡ x → toldFrom w live voids m (entries []) ≡ walked.Counts live voids x
+      go (At e) p = simp (p, add-zero)
+      go Nothing p = simp (p, add-zero)
 
--- each step to a next entry tells so
-pub step-sees : (version : ℕ) (a : List ℕ) (used at : ℕ) (e : Entry) (d : Cursor) → at ≤ used → Unbroken (walkFrom version a used at)
-    → stepAt version a used at ≡ Next e d → Sees version a used at e d
-step-sees version a used at e d h u k =
-    let m = step-tells version a used at (Next e d) h k in
-    let s = seen-next (walkFrom version a used at) e (walkFrom version a used (d .at)) (m .2) u in
-    record { moves = m .0; within = m .1; unbroken = s .0; sees = s .1 }
+  module _ (e : Entry) where
+    -- an entry is remembered as the wanted one is searched
+    recalls : (es : List Entry) → recalled w m (e ∷ es) ≡ recalled w (remembered w e m) es
+    unfolding wantedIn
+    recalls es = go (wants (w .tag) (w .least) e) (eqb (m .left) 0) (m .found) refl refl refl
+      where
+        go : (k z : Bool) (x : Sought) → wants (w .tag) (w .least) e ≡ k → eqb (m .left) 0 ≡ z → m .found ≡ x
+            → recalled w m (e ∷ es) ≡ recalled w (remembered w e m) es
+        go true true Nothing p q r = simp (p, q, r)
+        go true false Nothing p q r = simp (p, q, r)
+        go true z (At y) p q r = simp (p, r)
+        go false z x p q r = simp p
 
-module _ (tag n : ℕ) (row : List Entry) (e : Entry) (es : List Entry) (k : row ≡ e ∷ es) where
-  -- the occurrence that was looked for
-  pub occurs-here : e .«tag_id» ≡ tag → n ≡ 0 → occurrence tag n row ≡ some e
-  unfolding occurrence
-  occurs-here t z = rw k (simp (eq-eqb _ _ t, eq-eqb _ _ z))
+    -- a void counts among the voids
+    pub told-void : (x : Walk) → e .«tag_id» ≡ 0 → toldFrom w live voids m (follow e x) ≡ toldFrom w live (voids + 1) (remembered w e m) x
+    unfolding toldFrom liveCount voidCount
+    told-void (entries es) h =
+        let n : voids + (1 + voidCount es) ≡ voids + 1 + voidCount es = omega arith in
+        rw (recalls es) (simp (eq-eqb _ _ h, n))
+    told-void (broken at) h = refl
 
-  -- an earlier occurrence of the tag
-  pub occurs-later : e .«tag_id» ≡ tag → (n ≡ 0 → ⊥) → occurrence tag n row ≡ occurrence tag (n - 1) es
-  unfolding occurrence
-  occurs-later t z = rw k (simp (eq-eqb _ _ t, ne-eqb _ _ z))
-
-  -- an entry with another tag
-  pub occurs-behind : (e .«tag_id» ≡ tag → ⊥) → occurrence tag n row ≡ occurrence tag n es
-  unfolding occurrence
-  occurs-behind t = rw k (simp (ne-eqb _ _ t))
+    -- every other entry among the live ones
+    pub told-live : (x : Walk) → (e .«tag_id» ≡ 0 → ⊥)
+        → toldFrom w live voids m (follow e x) ≡ toldFrom w (live + 1) voids (remembered w e m) x
+    unfolding toldFrom liveCount voidCount
+    told-live (entries es) h =
+        let n : live + (1 + liveCount es) ≡ live + 1 + liveCount es = omega arith in
+        rw (recalls es) (simp (ne-eqb _ _ h, n))
+    told-live (broken at) h = refl

@@ -1,23 +1,26 @@
--- What the check of the header alone answers: refusals 1 to 6 of the check, or the header.
+-- What the check of the header alone answers: a refusal of 1 to 6, or the header.
 use Prim.Native.Nat.{ℕ}
-use mathlib.Core.Bool.{Bool, cond}
+use mathlib.Core.Bool.{Bool}
 use mathlib.Core.List.{List}
+use mathlib.Core.Option.{Option, none, some}
 use lib.ListN.{length}
+use Rattle.rules.specs.declared.Header.{Header}
 use Rattle.rules.specs.declared.Refusal.{Refusal}
-use Rattle.rules.specs.declared.Refusal.the-variants.{Area, Short, Signature, Version, Readonly, Sizes}
+use Rattle.rules.specs.declared.Refusal.the-variants.{Area}
 use Rattle.rules.specs.Header.{headerOf}
-use Rattle.rules.specs.Refusals.{refusesArea, refusesShort, refusesSignature, refusesVersion, refusesReadonly, refusesSizes}
+use Rattle.rules.specs.Edition.{current}
+use Rattle.rules.specs.Check.{headerRefusal}
 use Rattle.walk.specs.declared.header.Headed.{Headed}
 use Rattle.walk.specs.declared.header.Headed.the-variants.{Good, Refused}
 
-unfoldable pub headed : Bool → List ℕ → ℕ → Headed
-headed editing a base =
-    cond (refusesArea base (length a)) (Refused Area)
-    (cond (refusesShort (length a)) (Refused Short)
-    (cond (refusesSignature (headerOf a)) (Refused Signature)
-    (cond (refusesVersion (headerOf a)) (Refused Version)
-    (cond (refusesReadonly editing (headerOf a)) (Refused Readonly)
-    (cond (refusesSizes (headerOf a) (length a)) (Refused Sizes) (Good (headerOf a)))))))
+-- of a header and the refusal that it met, if any
+abbrev pub headed : Header → Option Refusal → Headed
+headed h (some r) = Refused r
+headed h none = Good h
+
+-- of a list's bytes at a base
+abbrev pub headedOf : Bool → List ℕ → ℕ → Headed
+headedOf editing a base = headed (headerOf a) (headerRefusal current editing base (length a) (headerOf a))
 
 -- why a header was refused; of a good one it is not asked
 abbrev pub refusalOfHeaded : Headed → Refusal

@@ -1,2 +1,4 @@
 pub mod Headed
 pub mod Cursor
+pub mod Wanted
+pub mod Survey

@@ -1,29 +1,36 @@
-// The check, and the admission of a list to an edit.
+// The check, and the survey of a list: its check that tells the header and a wanted entry too, for find and the edits.
 use crate::cursor;
 use crate::cursor::Walked;
 use crate::header;
 use crate::header::Headed;
+use crate::wanted::Sought;
+use crate::wanted::Wanted;
 use rules::Checked;
 use rules::Facts;
 use rules::Header;
 use rules::Refusal;
 ghost use mathlib.Core.Path.{_≡_};
-ghost use mathlib.Core.Bool.{true, false};
 ghost use Prim.Native.Nat.{_≤_};
 ghost use lib.ListN.{length};
 ghost use Rattle.rules.specs.Header.{headerOf};
 ghost use Rattle.rules.specs.Checksum.{checksumHolds};
-ghost use Rattle.rules.specs.Check.{checks as checksRule};
-ghost use Rattle.walk.specs.Headed.{refusalOfHeaded};
+ghost use Rattle.rules.specs.Check.{check as checkRule};
+ghost use Rattle.walk.specs.Survey.{surveyOf, refusalOfSurveyed};
 
-impl Headed {
-    // Why the header was refused.
-    fn refusal(self) -> Refusal
-        ensures { λ r. ⌜ r ≡ refusalOfHeaded self ⌝ }
+// The answer of a survey: what the check answers, the header, and the wanted entry.
+pub enum Surveyed {
+    Accepted(Facts, Header, Sought),
+    Refused(Refusal),
+}
+
+impl Surveyed {
+    // Why the list was refused.
+    pub fn refusal(self) -> Refusal
+        ensures { λ r. ⌜ r ≡ refusalOfSurveyed self ⌝ }
     {
         match self {
-            Headed::Good(_) => Refusal::Area,
-            Headed::Refused(r) => r,
+            Surveyed::Accepted(_, _, _) => Refusal::Area,
+            Surveyed::Refused(r) => r,
         }
     }
 }
@@ -39,45 +46,40 @@ fn checksum_holds(a: &[u8], h: Header) -> bool
     h.checksum == 0
 }
 
-// Checks 1 to 8 in the order of their numbers, 5 only for an edit.
-pub(crate) fn checks(editing: bool, area: &[u8], base: u64) -> Checked
-    ensures { λ r. ⌜ r ≡ checksRule editing (now (area .entry)) base ⌝ }
+// Checks 1 to 8 in the order of their numbers, 5 only for an edit; with the header, and the wanted entry.
+pub fn survey(editing: bool, area: &[u8], base: u64, w: Wanted) -> Surveyed
+    ensures { λ r. ⌜ r ≡ surveyOf editing (now (area .entry)) base w ⌝ }
 {
     let headed = header::check_header(editing, area, base);
     let Headed::Good(h) = headed else {
-        return Checked::Refused(headed.refusal());
+        return Surveyed::Refused(headed.refusal());
     };
     if !checksum_holds(area, h) {
-        return Checked::Refused(Refusal::Checksum);
+        return Surveyed::Refused(Refusal::Checksum);
     }
-    match cursor::walk(
-        area,
-        h.version,
-        header::first_entry(h),
-        h.used_size as usize,
-    ) {
-        Walked::Counts(live, voids) => Checked::Accepted(Facts {
-            version: h.version as u32,
-            used: h.used_size,
-            total: h.total_size,
-            alignment: h.alignment as u32,
-            live,
-            voids,
-        }),
-        Walked::Broken(at) => Checked::Refused(Refusal::Entry(at)),
+    match cursor::walk(area, h, w) {
+        Walked::Counts(live, voids, found) => Surveyed::Accepted(
+            Facts {
+                version: h.version as u32,
+                used: h.used_size,
+                total: h.total_size,
+                alignment: h.alignment as u32,
+                live,
+                voids,
+            },
+            h,
+            found,
+        ),
+        Walked::Broken(at) => Surveyed::Refused(Refusal::Entry(at)),
     }
 }
 
 // The check of the area's bytes at a stated base.
 pub fn check(area: &[u8], base: u64) -> Checked
-    ensures { λ r. ⌜ r ≡ checksRule false (now (area .entry)) base ⌝ }
+    ensures { λ r. ⌜ r ≡ checkRule (now (area .entry)) base ⌝ }
 {
-    checks(false, area, base)
-}
-
-// The admission of a list to an edit.
-pub fn admit(area: &[u8], base: u64) -> Checked
-    ensures { λ r. ⌜ r ≡ checksRule true (now (area .entry)) base ⌝ }
-{
-    checks(true, area, base)
+    match survey(false, area, base, Wanted::nothing()) {
+        Surveyed::Accepted(facts, _, _) => Checked::Accepted(facts),
+        Surveyed::Refused(r) => Checked::Refused(r),
+    }
 }

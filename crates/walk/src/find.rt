@@ -1,36 +1,26 @@
 // Find, in both forms.
 use crate::check;
-use crate::cursor;
-use crate::cursor::Sought;
-use crate::header;
-use rules::Checked;
+use crate::check::Surveyed;
+use crate::wanted::Sought;
+use crate::wanted::Wanted;
 use rules::Found;
 use rules::Refusal;
 ghost use mathlib.Core.Path.{_≡_};
-ghost use Rattle.rules.specs.Refusals.{refusesTag};
-ghost use Rattle.rules.specs.Find.{find as findRule, findData};
-
-// Refusal 9, for every call but the adds.
-pub fn refuses_tag(tag: u32) -> bool
-    ensures { λ r. ⌜ r ≡ refusesTag tag ⌝ }
-{
-    (tag == 0) | (16777215 < tag)
-}
+ghost use Prim.Native.Nat.{_+_};
+ghost use Rattle.rules.specs.Find.{find as findRule, findData, partOffset};
 
 // The offset and size of the data of occurrence n of a tag.
 pub fn find(area: &[u8], base: u64, tag: u32, n: u64) -> Found
     ensures { λ r. ⌜ r ≡ findRule (now (area .entry)) base tag n ⌝ }
 {
-    let checked = check::check(area, base);
-    let Checked::Accepted(_) = checked else {
-        return Found::Refused(checked.refusal());
+    let surveyed = check::survey(false, area, base, Wanted { tag, least: 0, n });
+    let Surveyed::Accepted(_, _, found) = surveyed else {
+        return Found::Refused(surveyed.refusal());
     };
-    if refuses_tag(tag) {
+    if tags::refuses_tag(tag) {
         return Found::Refused(Refusal::Tag);
     }
-    let h = header::read_header(area);
-    let used = h.used_size as usize;
-    let Sought::At(e) = cursor::seek(area, h.version, header::first_entry(h), used, tag, n) else {
+    let Sought::At(e) = found else {
         return Found::Refused(Refusal::None);
     };
     Found::At {
@@ -42,9 +32,11 @@ pub fn find(area: &[u8], base: u64, tag: u32, n: u64) -> Found
 // The data itself, as a part of the caller's area; the empty part where find refuses.
 pub fn find_data(area: &[u8], base: u64, tag: u32, n: u64) -> &[u8]
     ensures { λ r. ⌜ now r ≡ findData (now (area .entry)) base tag n ⌝ }
+    ensures { λ r. ⌜ r .ptr .0 ≡ area .entry .ptr .0 ⌝ }
+    ensures { λ r. ⌜ r .ptr .1 ≡ area .entry .ptr .1 + partOffset (findRule (now (area .entry)) base tag n) ⌝ }
 {
     let Found::At { offset, size } = find(area, base, tag, n) else {
-        return &area[..0];
+        return &area[0..0];
     };
     let from = offset as usize;
     let to = from + size as usize;

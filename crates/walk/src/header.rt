@@ -5,19 +5,34 @@ ghost use mathlib.Core.Path.{_≡_};
 ghost use Prim.Native.Nat.{_≤_};
 ghost use lib.ListN.{length};
 ghost use Rattle.rules.specs.Area.{usable as usableRule};
-ghost use Rattle.rules.specs.Header.{headerOf};
+ghost use Rattle.rules.specs.Header.{headerOf, headerSize};
+ghost use Rattle.rules.specs.Edition.{current};
 ghost use Rattle.rules.specs.Entries.{firstEntry};
 ghost use Rattle.rules.specs.Refusals.{refusesSizes, refusesReadonly};
-ghost use Rattle.walk.specs.Headed.{headed};
+ghost use Rattle.rules.specs.Check.{fieldsRefusal};
+ghost use Rattle.walk.specs.Headed.{headed, headedOf, refusalOfHeaded};
 
-pub enum Headed {
+// A header that passed checks 1 to 6, or the refusal.
+pub(crate) enum Headed {
     Good(Header),
     Refused(Refusal),
 }
 
+impl Headed {
+    // Why the header was refused.
+    pub(crate) fn refusal(self) -> Refusal
+        ensures { λ r. ⌜ r ≡ refusalOfHeaded self ⌝ }
+    {
+        match self {
+            Headed::Good(_) => Refusal::Area,
+            Headed::Refused(r) => r,
+        }
+    }
+}
+
 // The header's fields, as the table has them.
-pub fn read_header(a: &[u8]) -> Header
-    requires { ⌜ 24 ≤ length (now a) ⌝ }
+pub(crate) fn read_header(a: &[u8]) -> Header
+    requires { ⌜ headerSize ≤ length (now a) ⌝ }
     ensures { λ r. ⌜ r ≡ headerOf (now (a .entry)) ⌝ }
 {
     Header {
@@ -34,13 +49,13 @@ pub fn read_header(a: &[u8]) -> Header
 }
 
 // The place of the first entry.
-pub fn first_entry(h: Header) -> usize
+pub(crate) fn first_entry(h: Header) -> usize
     ensures { λ r. ⌜ r ≡ firstEntry h ⌝ }
 {
     (h.hdr_size as usize + 7) / 8 * 8
 }
 
-// An area is usable.
+// An area is usable. Each sum is made only where it cannot wrap.
 pub fn usable(base: u64, len: usize) -> bool
     ensures { λ r. ⌜ r ≡ usableRule base len ⌝ }
 {
@@ -62,7 +77,7 @@ fn refuses_readonly(editing: bool, h: Header) -> bool
 
 // Refusal 6.
 fn refuses_sizes(h: Header, len: usize) -> bool
-    ensures { λ r. ⌜ r ≡ refusesSizes h len ⌝ }
+    ensures { λ r. ⌜ r ≡ refusesSizes current h len ⌝ }
 {
     let used = h.used_size as usize;
     let total = h.total_size as usize;
@@ -76,18 +91,10 @@ fn refuses_sizes(h: Header, len: usize) -> bool
         | (len < total)
 }
 
-// Refusals 1 to 6 in the order of their numbers, or the header.
-pub fn check_header(editing: bool, area: &[u8], base: u64) -> Headed
-    ensures { λ r. ⌜ r ≡ headed editing (now (area .entry)) base ⌝ }
+// Refusals 3 to 6 in the order of their numbers, of a header in an area of len bytes.
+pub(crate) fn check_fields(editing: bool, len: usize, h: Header) -> Headed
+    ensures { λ r. ⌜ r ≡ headed h (fieldsRefusal current editing len h) ⌝ }
 {
-    let len = area.len();
-    if !usable(base, len) {
-        return Headed::Refused(Refusal::Area);
-    }
-    if len < 24 {
-        return Headed::Refused(Refusal::Short);
-    }
-    let h = read_header(area);
     if h.signature != Header::SIGNATURE {
         return Headed::Refused(Refusal::Signature);
     }
@@ -101,4 +108,18 @@ pub fn check_header(editing: bool, area: &[u8], base: u64) -> Headed
         return Headed::Refused(Refusal::Sizes);
     }
     Headed::Good(h)
+}
+
+// Refusals 1 to 6 in the order of their numbers, or the header.
+pub(crate) fn check_header(editing: bool, area: &[u8], base: u64) -> Headed
+    ensures { λ r. ⌜ r ≡ headedOf editing (now (area .entry)) base ⌝ }
+{
+    let len = area.len();
+    if !usable(base, len) {
+        return Headed::Refused(Refusal::Area);
+    }
+    if len < Header::SIZE as usize {
+        return Headed::Refused(Refusal::Short);
+    }
+    check_fields(editing, len, read_header(area))
 }

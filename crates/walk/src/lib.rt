@@ -1,5 +1,7 @@
-// Reading a transfer list: its header, the cursor that walks its entries, the check, and find. Nothing here writes.
+// Reading a transfer list: its header, the cursor that walks its entries, the survey, which is the check with a wanted entry, and find.
+// Nothing here writes.
 pub mod check;
-pub mod cursor;
+mod cursor;
 pub mod find;
 pub mod header;
+pub mod wanted;

@@ -8,8 +8,9 @@ use native.Mathlib.Nat.{add-assoc, add-zero, zero-add, suc-add, mul-assoc, pow-s
 use mathlib.Core.List.{List, [], _∷_, _++_}
 use lib.Arith.{mod-mul}
 use lib.ListN.{length, take, drop, getD, replicate, List·getD-append}
-use lib.Seq.{drop-cons, getD-take, getD-drop, getD-append-add}
-use Rattle.wire.specs.Bytes.{field, leBytes, splice, Bytes}
+use lib.Seq.{drop-cons, getD-take, getD-drop}
+use Rattle.wire.specs.Bytes.{field, leBytes, splice}
+use Rattle.wire.proofs.Range.{Bytes}
 use Rattle.wire.proofs.Splice.{getD-splice-before, getD-splice-in, getD-splice-behind}
 
 -- ---- lists of bytes
@@ -102,11 +103,6 @@ field-take n a at k l = field-cong (take n a) a at at k (λ i h. getD-take n a (
 pub field-append : (p q : List ℕ) (at k : ℕ) → at + k ≤ length p → field (p ++ q) at k ≡ field p at k
 field-append p q at k l = field-cong (p ++ q) p at at k (λ i h. List·getD-append p q 0 (at + i) (omega arith))
 
--- a field in the second of two lists
-pub field-append-behind : (p q : List ℕ) (at k : ℕ) → field (p ++ q) (length p + at) k ≡ field q at k
-field-append-behind p q at k =
-    field-cong (p ++ q) q (length p + at) at k (λ i h. rw add-assoc (getD-append-add p q (at + i) 0))
-
 -- a field is its low j bytes and its high k bytes
 pub field-split : (a : List ℕ) (at j k : ℕ) → field a at (j + k) ≡ field a at j + 256 ^ j * field a (at + j) k
 unfolding field
@@ -149,7 +145,8 @@ field-splice-same a at k n l h =
     ∙ field-leBytes k n h
 
 -- a field wholly before or wholly behind the new bytes is as it was
-pub field-splice-other : (a : List ℕ) (at : ℕ) (new : List ℕ) (bt k : ℕ) → at ≤ length a → (bt + k ≤ at) ⊎ (at + length new ≤ bt) → field (splice a at new) bt k ≡ field a bt k
+pub field-splice-other : (a : List ℕ) (at : ℕ) (new : List ℕ) (bt k : ℕ) → at ≤ length a → (bt + k ≤ at) ⊎ (at + length new ≤ bt)
+    → field (splice a at new) bt k ≡ field a bt k
 field-splice-other a at new bt k l (inl h) =
     field-cong (splice a at new) a bt bt k (λ i b. getD-splice-before a at new l (bt + i) (omega arith))
 field-splice-other a at new bt k l (inr h) =

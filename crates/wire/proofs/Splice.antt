@@ -6,7 +6,8 @@ use native.Mathlib.Numerals.{add-one}
 use native.Mathlib.Nat.{add-assoc, add-zero, zero-add}
 use mathlib.Core.List.{List, [], _∷_, _++_, append-assoc, append-nil}
 use lib.ListN.{length, take, drop, getD, set, length-append, length-drop, take-append-drop, List·getD-append}
-use lib.Seq.{drop-length, length-take-le, take-append-le, drop-append-le, take-at, drop-at, take-take, drop-drop, take-add, getD-append-add, getD-take, getD-drop, set-split, sets, sets-eq}
+use lib.Seq.{drop-length, length-take-le, take-append-le, drop-append-le, take-at, drop-at, take-take, drop-drop, take-add}
+use lib.Seq.{getD-append-add, getD-take, getD-drop, set-split, sets, sets-eq}
 use Rattle.wire.specs.Bytes.{splice}
 
 -- what follows the first n of a longer part is the part of what follows them
@@ -105,13 +106,6 @@ splice-snoc a at p v i e h =
     ∙ ap (λ (n : ℕ). splice (splice a at p) (at + n) (v ∷ [])) (sym e)
     ∙ splice-append a at p (v ∷ []) (omega arith)
 
--- of two splices at one place with as many bytes the second counts
-pub splice-over : (a : List ℕ) (at : ℕ) (p q : List ℕ) → at ≤ length a → length p ≡ length q → splice (splice a at p) at q ≡ splice a at q
-unfolding splice
-splice-over a at p q h e =
-    ap (λ (x : List ℕ). x ++ (q ++ drop (at + length q) (splice a at p))) (take-splice a at p h at (omega arith))
-    ∙ ap (λ (x : List ℕ). take at a ++ (q ++ x)) (drop-splice a at p h (at + length q) (omega arith))
-
 -- a splice within the first n bytes, of those bytes alone
 pub take-splice-within : (a : List ℕ) (at : ℕ) (new : List ℕ) (n : ℕ) → at + length new ≤ n → n ≤ length a → take n (splice a at new) ≡ splice (take n a) at new
 unfolding splice
@@ -126,21 +120,9 @@ take-splice-within a at new n h l =
     ∙ ap (λ (x : List ℕ). take at a ++ (new ++ x)) (sym (drop-take k (n - k) a (omega arith)))
     ∙ ap (λ (x : List ℕ). x ++ (new ++ drop k (take (k + (n - k)) a))) (sym (take-take at (k + (n - k)) a (omega arith))))
 
--- a splice behind the first n bytes, of what follows them alone
-pub drop-splice-within : (a : List ℕ) (at : ℕ) (new : List ℕ) (n : ℕ) → n ≤ at → at ≤ length a → drop n (splice a at new) ≡ splice (drop n a) (at - n) new
-unfolding splice
-drop-splice-within a at new n h l =
-    let m : ℕ = at - n in
-    let e : n + m ≡ at = omega arith in
-    subst (λ (k : ℕ). k ≤ length a → drop n (splice a k new) ≡ splice (drop n a) m new) e
-    (λ b.
-    let t : length (take (n + m) a) ≡ n + m = length-take-le (n + m) a b in
-    drop-append-le n (take (n + m) a) (new ++ drop (n + m + length new) a) (omega arith)
-    ∙ ap (λ (x : List ℕ). x ++ (new ++ drop (n + m + length new) a)) (drop-take n m a (omega arith))
-    ∙ ap (λ (x : List ℕ). take m (drop n a) ++ (new ++ x)) (ap (λ (j : ℕ). drop j a) (add-assoc n m (length new)) ∙ sym (drop-drop (m + length new) n a))) l
-
 -- two splices that do not overlap, in either order
-pub splice-comm : (a : List ℕ) (at : ℕ) (p : List ℕ) (b : ℕ) (q : List ℕ) → at + length p ≤ b → b ≤ length a → splice (splice a at p) b q ≡ splice (splice a b q) at p
+pub splice-comm : (a : List ℕ) (at : ℕ) (p : List ℕ) (b : ℕ) (q : List ℕ) → at + length p ≤ b → b ≤ length a
+    → splice (splice a at p) b q ≡ splice (splice a b q) at p
 unfolding splice
 splice-comm a at p b q h l =
     let k : ℕ = at + length p in

@@ -9,7 +9,8 @@ use lib.Seq.{take-suc}
 use lib.Arith.{bin-ind}
 use lib.Bits as bits
 use lib.Bits.{bitXor, differ, xor-step, xor-zero-l, xor-zero-r, xor-comm, xor-self}
-use Rattle.wire.specs.Bytes.{xor, splice, Bytes}
+use Rattle.wire.specs.Bytes.{xor, splice}
+use Rattle.wire.proofs.Range.{Bytes}
 use Rattle.wire.proofs.Splice.{in-three}
 
 differ-lt : (x y : ℕ) → x < 2 → y < 2 → differ x y < 2

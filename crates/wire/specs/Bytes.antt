@@ -1,6 +1,6 @@
 -- The words in which everything here speaks of bytes: little-endian numbers, exclusive or, and a stretch put into a list.
 -- A list of bytes is a list of numbers; nothing here knows what a transfer list is.
-use Prim.Native.Nat.{ℕ, zero, suc, _+_, _*_, _/_, _%_, _<_}
+use Prim.Native.Nat.{ℕ, zero, suc, _+_, _*_, _/_, _%_}
 use mathlib.Core.List.{List, [], _∷_, _++_}
 use lib.ListN.{length, take, drop, getD}
 use lib.Bits.{bitXor}
@@ -23,7 +23,3 @@ xor (b ∷ bs) = bitXor b (xor bs)
 -- a with the bytes new from at on, and every other byte as it was
 unfoldable pub splice : List ℕ → ℕ → List ℕ → List ℕ
 splice a at new = take at a ++ (new ++ drop (at + length new) a)
-
--- every element is a byte; behind the end getD gives 0
-abbrev pub Bytes : List ℕ → Type 0
-Bytes l = (i : ℕ) → getD l i 0 < 256

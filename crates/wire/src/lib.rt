@@ -4,12 +4,14 @@ ghost use Prim.Native.Nat.{_+_, _≤_};
 ghost use lib.ListN.{length, take, drop, replicate};
 ghost use Rattle.wire.specs.Bytes.{field, leBytes, xor, splice};
 
+// A byte as a wider number: the cast asks for no proof here.
 fn wide(x: u8) -> u32
     ensures { λ r. ⌜ r ≡ x ⌝ }
 {
     x as u32
 }
 
+// The same of four bytes.
 fn wide_u64(x: u32) -> u64
     ensures { λ r. ⌜ r ≡ x ⌝ }
 {
@@ -17,7 +19,7 @@ fn wide_u64(x: u32) -> u64
 }
 
 // The little-endian number of the three bytes from at on.
-pub fn read3(s: &[u8], at: usize) -> u32
+pub(crate) fn read3(s: &[u8], at: usize) -> u32
     requires { ⌜ at + 3 ≤ length (now s) ⌝ }
     ensures { λ r. ⌜ r ≡ field (now (s .entry)) at 3 ⌝ }
 {
@@ -34,16 +36,16 @@ pub fn read4(s: &[u8], at: usize) -> u32
     wide(s[at]) + 256 * read3(s, at + 1)
 }
 
-// The eight bytes from at on, an entry header's, as one little-endian number.
+// The little-endian number of the eight bytes from at on.
 pub fn read8(s: &[u8], at: usize) -> u64
     requires { ⌜ at + 8 ≤ length (now s) ⌝ }
     ensures { λ r. ⌜ r ≡ field (now (s .entry)) at 8 ⌝ }
 {
-    wide_u64(read4(s, at)) + 4294967296 * wide_u64(read4(s, at + 4))
+    wide_u64(read4(s, at)) + 0x1_0000_0000 * wide_u64(read4(s, at + 4))
 }
 
 // The low three bytes of n, the least first, from at on.
-pub fn write3(a: &mut [u8], at: usize, n: u32)
+pub(crate) fn write3(a: &mut [u8], at: usize, n: u32)
     requires { ⌜ at + 3 ≤ length (now a) ⌝ }
     ensures { λ _. ⌜ now (a .exit) ≡ splice (now (a .entry)) at (leBytes 3 n) ⌝ }
 {
@@ -69,8 +71,24 @@ pub fn write8(a: &mut [u8], at: usize, n: u64)
     requires { ⌜ at + 8 ≤ length (now a) ⌝ }
     ensures { λ _. ⌜ now (a .exit) ≡ splice (now (a .entry)) at (leBytes 8 n) ⌝ }
 {
-    write4(a, at, (n % 4294967296) as u32);
-    write4(a, at + 4, (n / 4294967296) as u32);
+    write4(a, at, (n % 0x1_0000_0000) as u32);
+    write4(a, at + 4, (n / 0x1_0000_0000) as u32);
+}
+
+// The exclusive or of the four bytes of n.
+pub fn xor4(n: u32) -> u8
+    ensures { λ r. ⌜ r ≡ xor (leBytes 4 n) ⌝ }
+{
+    (n % 256) as u8
+        ^ ((n / 256 % 256) as u8
+            ^ ((n / 256 / 256 % 256) as u8 ^ (n / 256 / 256 / 256 % 256) as u8))
+}
+
+// The exclusive or of the eight bytes of n.
+pub fn xor8(n: u64) -> u8
+    ensures { λ r. ⌜ r ≡ xor (leBytes 8 n) ⌝ }
+{
+    xor4((n % 0x1_0000_0000) as u32) ^ xor4((n / 0x1_0000_0000) as u32)
 }
 
 // The exclusive or of the n bytes from at on.

@@ -32,24 +32,39 @@ write4-requires-3 : tie.Need-write4-requires-3
 write4-requires-3 c κs = omega (arith, simp length-set at (c .before .before .before .write42 .kept .0))
 
 write4-requires-4 : tie.Need-write4-requires-4
-write4-requires-4 c κs = omega (arith, simp length-set at (c .before .before .before .before .before .before .before .write42 .kept .0))
+write4-requires-4 c κs =
+    let u = c .before .before .before .before .before .before .before in
+    omega (arith, simp length-set at (u .write42 .kept .0))
 
 write4-requires-5 : tie.Need-write4-requires-5
-write4-requires-5 c κs = omega (arith, simp length-set at (c .before .before .before .before .before .before .before .before .before .before .before .write42 .kept .0))
+write4-requires-5 c κs =
+    let t = c .before .before .before .before in
+    let u = t .before .before .before .before .before .before .before in
+    omega (arith, simp length-set at (u .write42 .kept .0))
 
 same-length : tie.Need-same-length
-same-length c = omega (arith, simp length-set at (c .before .before .before .before .before .before .before .before .before .before .before .before .before .before .write42 .kept .0))
+same-length c =
+    let f = c .before .before .before .before .before .before in
+    let u = f .before .before .before .before .before .before .before .before in
+    omega (arith, simp length-set at (u .write42 .kept .0))
 
 returns : tie.Need-returns
 returns c =
-    let start = c .before .before .before .before .before .before .before .before .before .before .before .before .before .before .before .before .before .before .before .before .before in
+    let s = c .before .before .before .before .before .before .before .before .before .before .before .before .before .before in
+    let start = s .before .before .before .before .before .before .before in
     let h = start .args .h in
-    c .before .before .write45 .ensures
-    ∙ ap (λ (x : List ℕ). splice x 20 (leBytes 4 (h .reserved))) (c .before .before .before .before .before .before .write44 .ensures
-    ∙ ap (λ (x : List ℕ). splice x 16 (leBytes 4 (h .flags))) (c .before .before .before .before .before .before .before .before .before .before .write43 .ensures
-    ∙ ap (λ (x : List ℕ). splice x 12 (leBytes 4 (h .«total_size»))) (c .before .before .before .before .before .before .before .before .before .before .before .before .before .before .write42 .ensures
-    ∙ rw (c .before .before .before .before .before .before .before .before .before .before .before .before .before .before .before .before .before .before .write4 .ensures))))
-    ∙ fields (start .args .a .now) h (start .pre) (omega arith) (omega arith) (omega arith) (omega arith)
+    let k = fields (start .args .a .now) h (start .pre) (omega arith) (omega arith) (omega arith) (omega arith) in
+    let r = c .before .before in
+    let f = r .before .before .before .before in
+    let t = f .before .before .before .before in
+    r .write45 .ensures
+    ∙ ap (λ (x : List ℕ). splice x 20 (leBytes 4 (h .reserved)))
+    (f .write44 .ensures
+    ∙ ap (λ (x : List ℕ). splice x 16 (leBytes 4 (h .flags)))
+    (t .write43 .ensures
+    ∙ ap (λ (x : List ℕ). splice x 12 (leBytes 4 (h .«total_size»)))
+    (s .write42 .ensures ∙ rw (s .before .before .before .before .write4 .ensures))))
+    ∙ k
 
 pub write-header-spec : {M : Type 1} → statement M
 write-header-spec =

@@ -1,7 +1,8 @@
 -- A field of three bytes is below 256 ^ 3, so neither the product nor the sum wraps, and the result is the field by its definition.
 use Prim.Native.Nat.{_<_}
 use native.Mathlib.Omega.{arith}
-use Rattle.wire.specs.Bytes.{field, Bytes}
+use Rattle.wire.specs.Bytes.{field}
+use Rattle.wire.proofs.Range.{Bytes}
 use Rattle.wire.proofs.Field.{field-lt}
 use borrow.Author.Needs.{needs}
 use Rattle.wire.proofs.read4.Statement.{statement}

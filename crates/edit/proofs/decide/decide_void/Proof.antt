@@ -1,135 +1,140 @@
--- What the admission or the tag refuses is refused; behind them the search finds the occurrence, and the plan of its void comes to the outcome.
+-- What the survey or a test refuses is refused; a void in the place of the occurrence that the survey met comes to the rule's void.
 use mathlib.Core.Path.{_≡_, sym, _∙_}
 use native.Mathlib.Omega.{arith}
+use mathlib.Core.Bool.{true}
 use mathlib.Core.Option.{some}
+use mathlib.Core.List.{[]}
+use lib.ListN.{length}
+use Rattle.wire.proofs.Range.{Bytes}
 use Rattle.rules.specs.Entries.{entriesOf, occurrence}
-use Rattle.rules.specs.Void.{void}
-use Rattle.laws.proofs.Check.{sound, Admitted}
-use Rattle.edit.proofs.Laws.{walks, found, not-found, decides-refused, occurs-room, void-plan, occurs-asks}
+use Rattle.rules.specs.Outcome.{Outcome}
+use Rattle.rules.specs.Void.{voidAt, void}
+use Rattle.rules.specs.Edit.{run, toVoid}
+use Rattle.laws.proofs.Check.{Admitted}
+use Rattle.laws.proofs.Passed.{tag-range}
+use Rattle.walk.specs.Wanted.{sought}
+use Rattle.walk.proofs.Survey as survey
+use Rattle.walk.proofs.Survey.{occurrence-wanted, sought-at, sought-nothing}
+use Rattle.plan.specs.Plan.{WellFormed}
+use Rattle.edit.specs.Decide.{planVoid}
+use Rattle.edit.proofs.Laws.{decides-refused, decides-plan, asks, void-formed, void-comes}
 use borrow.Author.Needs.{needs}
 use Rattle.edit.proofs.decide.decide_void.Statement.{statement}
 use Rattle.edit.proofs.decide.decide_void.Tie as tie
 
-admit-requires : tie.Need-admit-requires
-admit-requires c κs = search needs
+survey-requires : tie.Need-survey-requires
+survey-requires c κs = search needs
+
+enum-known-surveyed : tie.Need-enum-known-surveyed
+enum-known-surveyed c = search needs
 
 enum-told : tie.Need-enum-told
 enum-told c = search needs
-
-enum-told-2 : tie.Need-enum-told-2
-enum-told-2 c = search needs
 
 refusal-requires : tie.Need-refusal-requires
 refusal-requires c κs = search needs
 
 returns : tie.Need-returns
-unfolding void
 returns c =
-    let k = c .before in
-    decides-refused _ _ _ _ (simp (c .refusal .ensures, ← k .before .before .admit .ensures, k .enum-told2 .given .1))
+    let s = c .before .before .before in
+    let k = c .before .enum-told .given .1 in
+    decides-refused _ _ _ _ (simp (c .refusal .ensures, k, survey.refused _ _ _ _ _ (sym (s .survey .ensures) ∙ k)))
 
 refuses-tag-requires : tie.Need-refuses-tag-requires
 refuses-tag-requires c κs = search needs
 
+abbrev S : tie.After-surveyed → tie.Start
+S c = c .before .before .before .before
+
+-- the outcome that the rules give
+abbrev ruled : tie.After-surveyed → Outcome
+ruled c = let a = S c .args in run (toVoid (a .tag) (a .n)) (a .area .now) (a .base)
+
+-- what the survey tells of an accepted list
+told : (c : tie.After-surveyed) → let a = S c .args in let x = c .surveyed .given .0 in
+    survey.Accepts true (a .area .now) (a .base) (record { tag = a .tag; least = 0; n = a .n }) (x .0) (x .1 .0) (x .1 .1 .0)
+told c = survey.accepted _ _ _ _ _ _ _ (sym (c .before .before .survey .ensures) ∙ c .surveyed .given .1)
+
 returns-2 : tie.Need-returns-2
 unfolding void
 returns-2 c =
-    let k = c .before .before in
-    decides-refused _ _ _ _
-    (simp (← k .before .before .admit .ensures, k .enum-told .given .1, ← c .before .refuses-tag .ensures, c .if1 .taken))
+    let t = c .before in
+    decides-refused _ _ _ _ (simp (told (t .before .before) .checked, ← t .refuses-tag .ensures, c .if1 .taken))
 
-read-header-requires : tie.Need-read-header-requires
-read-header-requires c κs =
-    let k = c .before .before in
-    sound _ _ _ _ (sym (k .before .before .admit .ensures) ∙ k .enum-told .given .1) .long
+enum-known-found : tie.Need-enum-known-found
+enum-known-found c = search needs
 
-cast-used : tie.Need-cast-used
-cast-used c = search needs
+enum-told-2 : tie.Need-enum-told-2
+enum-told-2 c = search needs
 
-first-entry-requires : tie.Need-first-entry-requires
-first-entry-requires c κs = search needs
+-- the list is admitted and the tag is not refused
+tagged : (c : tie.Else1) → let k = c .before .before .before in let a = S k .args in
+    ruled k ≡ voidAt (a .area .now) (occurrence (a .tag) (a .n) (entriesOf (a .area .now)))
+unfolding void
+tagged c = simp (told (c .before .before .before) .checked, ← c .before .refuses-tag .ensures, c .if1 .left)
 
--- the list is admitted, with the header that is read
-admitted : (c : tie.After-read-header) → Admitted (c .before .before .before .before .before .before .before .args .area .now) (c .before .before .before .before .before .before .before .args .base) (c .read-header .result)
-admitted c =
-    let k = c .before .before .before in
-    record { header = c .read-header .ensures; sound = sound _ _ _ _ (sym (k .before .before .admit .ensures) ∙ k .enum-told .given .1) }
-
-seek-requires : tie.Need-seek-requires
-seek-requires c κs = walks _ _ _ _ (admitted (c .before .before)) (c .first-entry .ensures)
-
-enum-known-e : tie.Need-enum-known-e
-enum-known-e c = search needs
-
-enum-told-3 : tie.Need-enum-told-3
-enum-told-3 c = search needs
+met : (c : tie.Else1) → let k = c .before .before .before in let a = S k .args in
+    k .surveyed .given .0 .1 .1 .0 ≡ sought (occurrence (a .tag) (a .n) (entriesOf (a .area .now)))
+met c = rw occurrence-wanted (told (c .before .before .before) .found)
 
 returns-3 : tie.Need-returns-3
-unfolding void
 returns-3 c =
-    let x = c .before .before in
-    let h = x .before .before .before in
-    let t = h .before in
-    let k = t .before .before in
-    let n = not-found (occurrence _ _) _ _ _ _ (h .read-header .ensures) (x .before .first-entry .ensures) (x .seek .ensures) (c .enum-told3 .given .1) in
-    decides-refused _ _ _ _
-    (simp (← k .before .before .admit .ensures, k .enum-told .given .1, ← t .before .refuses-tag .ensures, t .if1 .left, n))
+    let t = c .before .before in
+    let n = sought-nothing (occurrence _ _ _) (sym (met t) ∙ c .enum-told2 .given .1) in
+    decides-refused _ _ _ _ (tagged t ∙ simp n)
 
--- the entry that the search answers is the occurrence
-occurs : (c : tie.After-known-told) → occurrence (c .before .before .before .before .before .before .before .before .before .before .before .before .before .args .tag) (c .before .before .before .before .before .before .before .before .before .before .before .before .before .args .n) (entriesOf (c .before .before .before .before .before .before .before .before .before .before .before .before .before .args .area .now)) ≡ some (c .before .e .given .0 .0)
-occurs c =
-    let x = c .before .before .before in
-    let h = x .before .before .before in
-    found (occurrence _ _) _ _ _ _ (h .read-header .ensures) (x .before .first-entry .ensures) (x .seek .ensures) _ (c .before .e .given .1)
+abbrev T : tie.After-found → tie.Else1
+T c = c .before .before
+
+abbrev K : tie.After-found → tie.After-surveyed
+K c = T c .before .before .before
+
+found : (c : tie.After-found) → let a = S (K c) .args in
+    occurrence (a .tag) (a .n) (entriesOf (a .area .now)) ≡ some (c .found .given .0 .0)
+found c = sought-at (occurrence _ _ _) _ (sym (met (T c)) ∙ c .found .given .1)
+
+admitted : (c : tie.After-found) → Admitted (S (K c) .args .area .now) (S (K c) .args .base) (K c .surveyed .given .0 .1 .0)
+admitted c = survey.admitted _ _ _ _ _ _ (sym (K c .before .before .survey .ensures) ∙ K c .surveyed .given .1)
+
+formed : (c : tie.After-found) → let a = S (K c) .args in let h = K c .surveyed .given .0 .1 .0 in
+    WellFormed h (length (a .area .now)) 0 (planVoid h (c .found .given .0 .0))
+formed c =
+    let t = tag-range _ (sym (T c .before .refuses-tag .ensures) ∙ T c .if1 .left) in
+    void-formed _ _ _ (admitted c) _ _ _ (t .0) (found c)
 
 void-plan-requires : tie.Need-void-plan-requires
-void-plan-requires c κs =
-    let m = admitted (c .before .before .before .before .before .before) in
-    let s = m .sound in
-    let r = occurs-room _ _ _ _ _ s (occurs c) in
-    omega (arith, s .used, s .total, s .short)
+void-plan-requires c κs = omega (arith, formed (c .before))
 
 slice-aggregate-with-checksum : tie.Need-slice-aggregate-with-checksum
 slice-aggregate-with-checksum c = search needs
 
 with-checksum-requires : tie.Need-with-checksum-requires
 with-checksum-requires c κs =
-    rw (c .before .void-plan .ensures) (occurs-asks _ _ _ _ _ _ (admitted (c .before .before .before .before .before .before .before .before)) (occurs (c .before .before)))
+    let v = c .before in
+    rw (v .void-plan .ensures) (asks _ _ _ _ _ (admitted (v .before .before)) (formed (v .before .before)))
 
 returns-4 : tie.Need-returns-4
-unfolding void
 returns-4 c =
-    let f = occurs (c .before .before .before) in
-    let h = c .before .before .before .before .before .before .before .before .before in
-    let t = h .before in
-    let k = t .before .before in
-    simp (
-      ← k .before .before .admit .ensures,
-      k .enum-told .given .1,
-      ← t .before .refuses-tag .ensures,
-      t .if1 .left,
-      f,
-      c .with-checksum .ensures,
-      c .before .before .void-plan .ensures,
-    ) (void-plan _ _ _ _ _ _ (admitted h) (λ i. omega (arith, c .before .before .before .before .before .before .before .before .before .before .before .before .before .before .before .shared-slice-known .given i)) f)
+    let v = c .before .before in
+    let f = v .before .before in
+    let m = admitted f in
+    let b : Bytes (S (K f) .args .area .now) = λ i. omega (arith, K f .before .before .before .shared-slice-known .given i) in
+    rw (tagged (T f), found f, c .with-checksum .ensures, v .void-plan .ensures)
+    (decides-plan _ [] _ _ _ _ m b (formed f) (void-comes _ _ _ m b (f .found .given .0 .0)))
 
 pub decide-void-spec : {M : Type 1} → statement M
 decide-void-spec =
     tie.close
     (tie.spec
-    admit-requires
+    survey-requires
+    enum-known-surveyed
     enum-told
-    enum-told-2
     refusal-requires
     returns
     refuses-tag-requires
     returns-2
-    read-header-requires
-    cast-used
-    first-entry-requires
-    seek-requires
-    enum-known-e
-    enum-told-3
+    enum-known-found
+    enum-told-2
     returns-3
     void-plan-requires
     slice-aggregate-with-checksum

@@ -1,11 +1,9 @@
 -- The definition, by the same test; the shift makes the power of two.
-use mathlib.Core.Path.{_≡_}
-use Prim.Native.Nat.{ℕ, _+_, _*_, _%_, _^_, _≤_, _<_}
+use Prim.Native.Nat.{_+_}
 use native.Mathlib.Omega.{arith}
 use native.Mathlib.Nat.{mod-lt}
-use lib.Pow.{pow-mono}
 use borrow.Author.Tests.{eq-eqb, ne-eqb}
-use Rattle.demand3.proofs.Power.{power-positive}
+use Rattle.laws.proofs.Power.{power-positive, shifted}
 use Rattle.edit.specs.Decide.{paddingFor}
 use borrow.Author.Needs.{needs}
 use Rattle.edit.proofs.decide.padding_for.Statement.{statement}
@@ -20,13 +18,6 @@ add-p c = search needs
 add-p-2 : tie.Need-add-p-2
 add-p-2 c = search needs
 
--- one shifted by less than 32 is the power of two
-shifted : (k : ℕ) → k < 32 → 1 * 2 ^ k % 18446744073709551616 ≡ 2 ^ k
-shifted k h =
-    let l : k ≤ 32 = omega arith in
-    let m : 2 ^ k ≤ 2 ^ 32 = pow-mono l in
-    omega arith
-
 rem-p : tie.Need-rem-p
 rem-p c = let e = shifted (c .args .exponent) (c .pre .1) in rw e (power-positive _)
 
@@ -39,9 +30,9 @@ returns c =
 
 sub-result : tie.Need-sub-result
 sub-result c =
-    let e = shifted (c .before .args .exponent) (c .before .pre .1) in
-    let l : (c .before .args .base + c .before .args .used + 8) % 2 ^ (c .before .args .exponent) < 2 ^ (c .before .args .exponent) = mod-lt _ (power-positive _) in
-    rw e (omega arith)
+    let a = c .before .args in
+    let e = shifted (a .exponent) (c .before .pre .1) in
+    rw e (omega (arith, mod-lt (a .base + a .used + 8) (power-positive (a .exponent))))
 
 returns-2 : tie.Need-returns-2
 unfolding paddingFor

@@ -6,17 +6,17 @@ use borrow.Author.Needs.{needs}
 use Rattle.plan.proofs.sum.total_patch.Statement.{statement}
 use Rattle.plan.proofs.sum.total_patch.Tie as tie
 
-xor-number-requires : tie.Need-xor-number-requires
-xor-number-requires c κs = search needs
+xor4-requires : tie.Need-xor4-requires
+xor4-requires c κs = search needs
 
-xor-number-requires-2 : tie.Need-xor-number-requires-2
-xor-number-requires-2 c κs = search needs
+xor4-requires-2 : tie.Need-xor4-requires-2
+xor4-requires-2 c κs = search needs
 
 returns : tie.Need-returns
 unfolding totalPatch
 returns c =
     let h = c .before .before .before .before .before .args .h in
-    rw (eq-eqb (h .flags % 2) 1 (c .before .before .before .if1 .taken), c .before .before .xor-number .ensures, c .xor-number2 .ensures)
+    rw (eq-eqb (h .flags % 2) 1 (c .before .before .before .if1 .taken), c .before .before .xor4 .ensures, c .xor42 .ensures)
 
 returns-2 : tie.Need-returns-2
 unfolding totalPatch
@@ -25,4 +25,4 @@ returns-2 c =
     rw (ne-eqb (h .flags % 2) 1 (c .if1 .left))
 
 pub total-patch-spec : {M : Type 1} → statement M
-total-patch-spec = tie.close (tie.spec xor-number-requires xor-number-requires-2 returns returns-2)
+total-patch-spec = tie.close (tie.spec xor4-requires xor4-requires-2 returns returns-2)

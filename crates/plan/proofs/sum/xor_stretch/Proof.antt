@@ -4,7 +4,7 @@ use Prim.Native.Nat.{ℕ}
 use lib.Bits.{bitXor}
 use lib.Seq.{take-length}
 use Rattle.wire.specs.Bytes.{leBytes, xor}
-use Rattle.laws.proofs.Patch.{entry-word}
+use Rattle.laws.proofs.EntryBytes.{entry-word}
 use Rattle.plan.proofs.Laws.{xor-stretchOf}
 use borrow.Author.Needs.{needs}
 use Rattle.plan.proofs.sum.xor_stretch.Statement.{statement}
@@ -16,8 +16,8 @@ xor-void-requires c κs = search needs
 entry-word-requires : tie.Need-entry-word-requires
 entry-word-requires c κs = search needs
 
-xor-word-requires : tie.Need-xor-word-requires
-xor-word-requires c κs = search needs
+xor8-requires : tie.Need-xor8-requires
+xor8-requires c κs = search needs
 
 xor-part-requires : tie.Need-xor-part-requires
 xor-part-requires c κs = search needs
@@ -31,7 +31,7 @@ returns c =
     let p = a .p in
     let tag = c .before .before .before .before .before .before .pre .2 in
     let entry =
-    c .before .before .xor-word .ensures
+    c .before .before .xor8 .ensures
     ∙ ap (λ (w : ℕ). xor (leBytes 8 w)) (c .before .before .before .entry-word .ensures)
     ∙ ap xor (entry-word (p .«tag_id») (p .«data_size») tag) in
     let content = c .before .xor-part .ensures ∙ ap xor (take-length (a .«data» .now)) in
@@ -44,7 +44,7 @@ xor-stretch-spec =
     (tie.spec
     xor-void-requires
     entry-word-requires
-    xor-word-requires
+    xor8-requires
     xor-part-requires
     xor-void-requires-2
     returns)

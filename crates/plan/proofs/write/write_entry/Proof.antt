@@ -7,7 +7,7 @@ use lib.ListN.{length, replicate}
 use Rattle.wire.specs.Bytes.{leBytes, splice}
 use Rattle.wire.proofs.Splice.{splice-append}
 use Rattle.rules.specs.Entries.{entryHeader}
-use Rattle.laws.proofs.Patch.{entry-word, length-entryHeader}
+use Rattle.laws.proofs.EntryBytes.{entry-word, length-entryHeader}
 use borrow.Author.Needs.{needs}
 use Rattle.plan.proofs.write.write_entry.Statement.{statement}
 use Rattle.plan.proofs.write.write_entry.Tie as tie
@@ -35,18 +35,21 @@ same-length c = search needs
 
 returns : tie.Need-returns
 returns c =
-    let start = c .before .before .before .before .before .before .before .before .before .before .before .before .before .before .before in
+    let z = c .before .before in
+    let d = z .before .before .before .before in
+    let w = d .before .before .before .before in
+    let start = w .before .before .before .before .before in
     let a = start .args in
     let l : List ℕ = a .a .now in
     let s : List ℕ = a .«data» .now in
     let h : List ℕ = entryHeader (a .tag) (a .size) in
     let zeros : List ℕ = replicate (a .zeros) 0 in
-    let header : c .before .before .before .before .before .before .before .before .before .before .write8 .last .0 ≡ splice l (a .at) h =
-    c .before .before .before .before .before .before .before .before .before .before .write8 .ensures ∙ ap (λ (w : ℕ). splice l (a .at) (leBytes 8 w)) (c .before .before .before .before .before .before .before .before .before .before .before .entry-word .ensures) ∙ ap (splice l (a .at)) (entry-word (a .tag) (a .size) (start .pre .1)) in
+    let word = ap (leBytes 8) (w .before .entry-word .ensures) ∙ entry-word (a .tag) (a .size) (start .pre .1) in
+    let header : w .write8 .last .0 ≡ splice l (a .at) h = w .write8 .ensures ∙ ap (splice l (a .at)) word in
     let k : length h ≡ 8 = length-entryHeader (a .tag) (a .size) in
-    c .before .before .zero-part .ensures
-    ∙ ap (λ (x : List ℕ). splice x (a .at + 8 + length s) zeros) (c .before .before .before .before .before .before .copy-part .ensures)
-    ∙ splice-append (c .before .before .before .before .before .before .before .before .before .before .write8 .last .0) (a .at + 8) s zeros (omega arith)
+    z .zero-part .ensures
+    ∙ ap (λ (x : List ℕ). splice x (a .at + 8 + length s) zeros) (d .copy-part .ensures)
+    ∙ splice-append (w .write8 .last .0) (a .at + 8) s zeros (omega arith)
     ∙ ap (λ (x : List ℕ). splice x (a .at + 8) (s ++ zeros)) header
     ∙ ap (λ (n : ℕ). splice (splice l (a .at) h) (a .at + n) (s ++ zeros)) (sym k)
     ∙ splice-append l (a .at) h (s ++ zeros) (omega arith)

@@ -6,7 +6,7 @@ use mathlib.Core.List.{List, append-nil}
 use lib.ListN.{length, replicate}
 use Rattle.wire.specs.Bytes.{splice}
 use Rattle.wire.proofs.Splice.{splice-append}
-use Rattle.laws.proofs.Patch.{length-entryHeader}
+use Rattle.laws.proofs.EntryBytes.{length-entryHeader}
 use Rattle.plan.specs.Plan.{voidHeader}
 use Rattle.plan.proofs.Laws.{some-header, whole-void}
 use borrow.Author.Needs.{needs}

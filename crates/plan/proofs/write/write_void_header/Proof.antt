@@ -4,7 +4,7 @@ use Prim.Native.Nat.{ℕ, _-_}
 use native.Mathlib.Omega.{arith}
 use Rattle.wire.specs.Bytes.{leBytes, splice}
 use Rattle.wire.proofs.Splice.{splice-nil}
-use Rattle.laws.proofs.Patch.{entry-word}
+use Rattle.laws.proofs.EntryBytes.{entry-word}
 use Rattle.plan.proofs.Laws.{no-header, some-header}
 use borrow.Author.Needs.{needs}
 use Rattle.plan.proofs.write.write_void_header.Statement.{statement}

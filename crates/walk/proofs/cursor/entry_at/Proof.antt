@@ -4,7 +4,8 @@ use Prim.Native.Nat.{ℕ, _+_, _*_, _/_, _%_}
 use native.Mathlib.Omega.{arith}
 use mathlib.Core.List.{List}
 use native.Mathlib.Nat.{add-assoc}
-use Rattle.wire.specs.Bytes.{field, Bytes}
+use Rattle.wire.specs.Bytes.{field}
+use Rattle.wire.proofs.Range.{Bytes}
 use Rattle.wire.proofs.Field.{field-split, field-lt}
 use Rattle.rules.specs.Entries.{entryAt}
 use borrow.Author.Needs.{needs}

@@ -1,7 +1,7 @@
--- The part is the data that `find` answers, which lies within the area; where it refuses the part is empty.
-use mathlib.Core.Path.{sym, _∙_}
+-- The part is the data that `find` answers, at its offset, which lies within the area; where it refuses the part is empty.
+use mathlib.Core.Path.{refl, sym, _∙_}
 use native.Mathlib.Omega.{arith}
-use native.Mathlib.Nat.{add-sub-cancel-left}
+use native.Mathlib.Nat.{sub-self, add-sub-cancel-left}
 use Rattle.rules.specs.Find.{findData}
 use Rattle.laws.proofs.Check.{find-within}
 use borrow.Author.Needs.{needs}
@@ -17,12 +17,22 @@ enum-known-offset c = search needs
 enum-told : tie.Need-enum-told
 enum-told c = search needs
 
-slice-aggregate-result : tie.Need-slice-aggregate-result
-slice-aggregate-result c = search needs
+sub-result : tie.Need-sub-result
+sub-result c = search needs
 
+part-result-start : tie.Need-part-result-start
+part-result-start c = search needs
+
+part-result-end : tie.Need-part-result-end
+part-result-end c = search needs
+
+-- the part would be empty at any place; that it stands at the area's start is the third claim
 returns : tie.Need-returns
 unfolding findData
-returns c = simp (← c .before .before .before .find .ensures, c .before .enum-told .given .1)
+returns c =
+    let k = c .before in
+    let r = sym (k .before .before .find .ensures) ∙ k .enum-told .given .1 in
+    (simp (r, sub-self), (refl, rw r (omega arith)))
 
 cast-from : tie.Need-cast-from
 cast-from c = search needs
@@ -33,14 +43,14 @@ cast-to c = search needs
 add-to : tie.Need-add-to
 add-to c = search needs
 
-sub-result : tie.Need-sub-result
-sub-result c = search needs
+sub-result-2 : tie.Need-sub-result-2
+sub-result-2 c = search needs
 
-part-result-start : tie.Need-part-result-start
-part-result-start c = search needs
+part-result-start-2 : tie.Need-part-result-start-2
+part-result-start-2 c = search needs
 
-part-result-end : tie.Need-part-result-end
-part-result-end c =
+part-result-end-2 : tie.Need-part-result-end-2
+part-result-end-2 c =
     let k = c .before in
     let w = find-within _ _ _ _ _ _ (sym (k .before .before .find .ensures) ∙ k .offset .given .1) in
     omega arith
@@ -49,7 +59,8 @@ returns-2 : tie.Need-returns-2
 unfolding findData
 returns-2 c =
     let k = c .before .before in
-    simp (← k .before .before .find .ensures, k .offset .given .1, add-sub-cancel-left)
+    let r = sym (k .before .before .find .ensures) ∙ k .offset .given .1 in
+    (rw (r, add-sub-cancel-left), (refl, rw r (omega arith)))
 
 pub find-data-spec : {M : Type 1} → statement M
 find-data-spec =
@@ -58,12 +69,14 @@ find-data-spec =
     find-requires
     enum-known-offset
     enum-told
-    slice-aggregate-result
+    sub-result
+    part-result-start
+    part-result-end
     returns
     cast-from
     cast-to
     add-to
-    sub-result
-    part-result-start
-    part-result-end
+    sub-result-2
+    part-result-start-2
+    part-result-end-2
     returns-2)

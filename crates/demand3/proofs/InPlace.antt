@@ -1,0 +1,43 @@
+-- Demand 3 for an edit in place: what an edit that is done has passed, and the theorem for any list that is changed and sealed.
+use mathlib.Core.Path.{_≡_, refl, _∙_, subst}
+use Prim.Native.Nat.{ℕ, _≤_}
+use native.Mathlib.Omega.{arith}
+use mathlib.Core.Bool.{Bool, true, false, cond}
+use mathlib.Core.List.{List, _∷_}
+use lib.ListN.{length}
+use Rattle.rules.specs.declared.Entry.{Entry}
+use Rattle.rules.specs.declared.Refusal.{Refusal}
+use Rattle.rules.specs.Header.{headerSize}
+use Rattle.rules.specs.Checksum.{seal}
+use Rattle.rules.specs.Outcome.{Outcome, refused, done}
+use Rattle.rules.specs.Edit.{Edit, inPlace, destination}
+use Rattle.rules.specs.Demand3.{Holds, Live, reading, changed, bytesFrom, headerStretches, stretches}
+use Rattle.laws.proofs.Differs.{outside}
+use Rattle.laws.proofs.Change.{Put, put-seal, Changed, Settled, settle}
+
+-- an edit that is done passed each of its own checks
+pub passed : (b : Bool) (r : Refusal) (x : Outcome) (value : ℕ) (bytes : List ℕ) → cond b (refused r) x ≡ done value bytes
+    → (b ≡ false) × (x ≡ done value bytes)
+passed true r x value bytes h = absurd (let z : _≡_ {A = ℕ} 0 1 = cc in omega arith)
+passed false r x value bytes h = (refl, h)
+
+-- an edit that puts the bytes new into a, which gives c, and seals it
+pub in-place-holds : (e : Edit) (a : List ℕ) (base value : ℕ) {c new : List ℕ} {p : ℕ} {es : List Entry} {xs : List Live} (bytes : List ℕ)
+    → destination e ≡ inPlace → seal c ≡ bytes → stretches e a (seal c) ≡ bytesFrom p (length new) ∷ headerStretches
+    → headerSize ≤ p → Put a c p new → Changed a c base es xs → xs ≡ changed e a (reading a) → Holds e a base value bytes
+in-place-holds e a base value {c} {new} {p} {es} bytes d sealed s low t k live =
+    let q : Settled c base es (seal c) = settle c base es (k .ready) in
+    let b : Put a (seal c) p new = put-seal t low in
+    subst (λ (l : List ℕ). Holds e a base value l) sealed
+    (record {
+      result = rw d
+          (record {
+            again = q .again;
+            checksum = q .checksum;
+            flags = q .flags ∙ k .flags;
+            live = q .live ∙ k .live ∙ live;
+            others = λ i l h. b .differs i (outside (bytesFrom p (length new) ∷ headerStretches) i (rw s at h));
+            addresses = rw d tt;
+          });
+      size = rw d (b .size);
+    })

@@ -1,0 +1,2 @@
+-- Laws of a target.
+pub mod Laws

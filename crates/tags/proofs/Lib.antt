@@ -1,0 +1,2 @@
+-- Laws of the tag table.
+pub mod Laws

@@ -1,0 +1,48 @@
+/* The layout of the header's structures and the numbers of its refusals, checked by the compiler; nothing is run. */
+#include "transfer_list.h"
+
+#if defined(__cplusplus)
+#define HOLDS(name, condition) static_assert(condition, #name)
+#elif __STDC_VERSION__ >= 201112L
+#define HOLDS(name, condition) _Static_assert(condition, #name)
+#else
+#define HOLDS(name, condition) typedef char name[(condition) ? 1 : -1] /* C99 has no assertion; a negative size is an error */
+#endif
+
+#define SIZE(type, size) HOLDS(type##_whole, sizeof(type) == (size))
+#define FIELD(type, field, at) HOLDS(type##_##field, offsetof(type, field) == (at) && sizeof(((type *)0)->field) == 4)
+#define NUMBER(name, number) HOLDS(name##_number, name == (number))
+
+SIZE(tl_checked, 28);
+FIELD(tl_checked, number, 0);
+FIELD(tl_checked, version, 4);
+FIELD(tl_checked, used, 8);
+FIELD(tl_checked, total, 12);
+FIELD(tl_checked, alignment, 16);
+FIELD(tl_checked, live, 20);
+FIELD(tl_checked, voids, 24);
+
+SIZE(tl_found, 12);
+FIELD(tl_found, number, 0);
+FIELD(tl_found, offset, 4);
+FIELD(tl_found, size, 8);
+
+SIZE(tl_done, 8);
+FIELD(tl_done, number, 0);
+FIELD(tl_done, value, 4);
+
+NUMBER(TL_ACCEPTED, 0);
+NUMBER(TL_AREA, 1);
+NUMBER(TL_SHORT, 2);
+NUMBER(TL_SIGNATURE, 3);
+NUMBER(TL_VERSION, 4);
+NUMBER(TL_READONLY, 5);
+NUMBER(TL_SIZES, 6);
+NUMBER(TL_CHECKSUM, 7);
+NUMBER(TL_ENTRY, 8);
+NUMBER(TL_TAG, 9);
+NUMBER(TL_SHAPE, 10);
+NUMBER(TL_ALIGN, 11);
+NUMBER(TL_TARGET, 12);
+NUMBER(TL_NONE, 13);
+NUMBER(TL_ROOM, 14);
