@@ -1,4 +1,4 @@
-# make run       the demonstration: the paper's first examples, then a bench's boot over the library
+# make run       the demonstration: the paper's first examples, a bench's boot over the library, a list of edition 0.9 converted
 # make show      the entries of a list in a file: FILE=.. BASE=..; without a file, a sample
 # make test      everything that is checked; ends with rt ci, whose last line is 'N passed, 0 failed'
 # make lib       target/staticlib/libtransfer_list.a, for C on x86-64
@@ -22,9 +22,10 @@ CARGO = cargo build --quiet --release --offline
 
 .PHONY: run show test lib install ctest compare bench fmt-check header-check symbols-check oracle-test size
 
-run: target/demo/paper target/demo/boot
+run: target/demo/paper target/demo/boot target/demo/edition09
 	target/demo/paper
 	target/demo/boot
+	target/demo/edition09
 
 show: target/demo/show
 	target/demo/show $(FILE) $(BASE)

@@ -1,7 +1,7 @@
 /*
  * The paper's examples A to N (it has no L) and every refusal, through the header alone. For each call every field of the answer is
  * printed, how many bytes changed, and the bytes where any did. `make ctest` compares this with answers.expected, which was worked out
- * from the paper and not with this library.
+ * from the paper and not with this library. The examples of edition 0.9 are our own, since source 000 has none.
  */
 #include <inttypes.h>
 #include <stdio.h>
@@ -62,6 +62,22 @@ static void show_done(tl_done d)
     show_buffer(&area, len);
 }
 
+static void show_checked(tl_checked c)
+{
+    printf("  number %" PRIu32 ", version %" PRIu32 ", used %" PRIu32 ", total %" PRIu32, c.number, c.version, c.used, c.total);
+    printf(", alignment %" PRIu32 ", live %" PRIu32 ", voids %" PRIu32 "\n", c.alignment, c.live, c.voids);
+    show_buffer(&area, len);
+}
+
+static void show_found(tl_found f)
+{
+    const uint8_t *part = tl_data(area.now, f);
+    printf("  number %" PRIu32 ", offset %" PRIu32 ", size %" PRIu32, f.number, f.offset, f.size);
+    printf("; tl_data: area + %td\n", part - area.now);
+    show_hex(part, f.size);
+    show_buffer(&area, len);
+}
+
 static void keep(void)
 {
     memcpy(area.before, area.now, SPACE);
@@ -73,25 +89,17 @@ static void check(void)
 {
     printf("tl_check: %zu bytes at 0x%" PRIx64 "\n", len, base);
     keep();
-    tl_checked c = tl_check(len == 0 ? NULL : area.now, len, base);
-    printf("  number %" PRIu32 ", version %" PRIu32 ", used %" PRIu32 ", total %" PRIu32, c.number, c.version, c.used, c.total);
-    printf(", alignment %" PRIu32 ", live %" PRIu32 ", voids %" PRIu32 "\n", c.alignment, c.live, c.voids);
-    show_buffer(&area, len);
+    show_checked(tl_check(len == 0 ? NULL : area.now, len, base));
 }
 
 static void find(uint32_t tag, uint64_t n)
 {
     printf("tl_find: tag 0x%" PRIx32 ", occurrence %" PRIu64 "\n", tag, n);
     keep();
-    tl_found f = tl_find(area.now, len, base, tag, n);
-    const uint8_t *part = tl_data(area.now, f);
-    printf("  number %" PRIu32 ", offset %" PRIu32 ", size %" PRIu32, f.number, f.offset, f.size);
-    printf("; tl_data: area + %td\n", part - area.now);
-    show_hex(part, f.size);
-    show_buffer(&area, len);
+    show_found(tl_find(area.now, len, base, tag, n));
 }
 
-/* The area is full of ee before, so that every byte written is seen; so is the target of a relocation. */
+/* The area is full of ee before, so that every byte written is seen; so is the target of a relocation or conversion. */
 static void create(size_t new_len, uint64_t new_base, bool has_checksum)
 {
     len = new_len;
@@ -129,6 +137,30 @@ static void relocate(size_t target_len, uint64_t target_base)
     printf("tl_relocate: target of %zu bytes at 0x%" PRIx64 "\n", target_len, target_base);
     keep();
     show_done(tl_relocate(area.now, len, base, target.now, target_len, target_base));
+    show_buffer(&target, target_len);
+}
+
+static void check09(void)
+{
+    printf("tl09_check: %zu bytes at 0x%" PRIx64 "\n", len, base);
+    keep();
+    show_checked(tl09_check(len == 0 ? NULL : area.now, len, base));
+}
+
+static void find09(uint32_t tag, uint64_t n)
+{
+    printf("tl09_find: tag 0x%" PRIx32 ", occurrence %" PRIu64 "\n", tag, n);
+    keep();
+    show_found(tl09_find(area.now, len, base, tag, n));
+}
+
+/* A target without bytes is lent as NULL. */
+static void convert09(size_t target_len, uint64_t target_base)
+{
+    memset(target.now, 0xee, SPACE);
+    printf("tl09_convert: target of %zu bytes at 0x%" PRIx64 "\n", target_len, target_base);
+    keep();
+    show_done(tl09_convert(area.now, len, base, target_len == 0 ? NULL : target.now, target_len, target_base));
     show_buffer(&target, target_len);
 }
 
@@ -282,10 +314,278 @@ static void other_refusals(void)
     strike(1, 1);
 }
 
+/* Lists of edition 0.9, the bytes of their size. Padding and voids' data are not 0, so that they are seen to be copied. */
+static const uint8_t empty_16[16] = {0xff, 0xd0, 0x6e, 0x00, 0x71, 0x01, 0x10, 0x03, 0x10, 0x00, 0x00, 0x00, 0x10, 0x00, 0x00, 0x00};
+static const uint8_t empty_64[16] = {0xff, 0xd0, 0x6e, 0x00, 0xa1, 0x01, 0x10, 0x03, 0x10, 0x00, 0x00, 0x00, 0x40, 0x00, 0x00, 0x00};
+
+/* tag 1 with aa bb cc; max_size 64 */
+static const uint8_t one_entry[32] = {0xff, 0xd0, 0x6e, 0x00, 0xb0, 0x01, 0x10, 0x03, 0x20, 0x00, 0x00, 0x00, 0x40, 0x00, 0x00, 0x00,
+                                      0x01, 0x00, 0x00, 0x08, 0x03, 0x00, 0x00, 0x00, 0xaa, 0xbb, 0xcc, 0x5a, 0x5a, 0x5a, 0x5a, 0x5a};
+
+/* a void of 8; tag 6 with three bytes; tag 0x800001 and a void, without data; tag 6 with eight bytes; max_size 88 */
+static const uint8_t two_voids[80] = {0xff, 0xd0, 0x6e, 0x00, 0x71, 0x01, 0x10, 0x03, 0x50, 0x00, 0x00, 0x00, 0x58, 0x00, 0x00, 0x00,
+                                      0x00, 0x00, 0x00, 0x08, 0x08, 0x00, 0x00, 0x00, 0x5a, 0x5a, 0x5a, 0x5a, 0x5a, 0x5a, 0x5a, 0x5a,
+                                      0x06, 0x00, 0x00, 0x08, 0x03, 0x00, 0x00, 0x00, 0x11, 0x22, 0x33, 0x5a, 0x5a, 0x5a, 0x5a, 0x5a,
+                                      0x01, 0x00, 0x80, 0x08, 0x00, 0x00, 0x00, 0x00, 0x00, 0x00, 0x00, 0x08, 0x00, 0x00, 0x00, 0x00,
+                                      0x06, 0x00, 0x00, 0x08, 0x08, 0x00, 0x00, 0x00, 0x77, 0x77, 0x77, 0x77, 0x77, 0x77, 0x77, 0x77};
+
+/* version 2 with hdr_size 24; tag 1 with hdr_size 16 and aa bb; max_size 48 */
+static const uint8_t version_2[48] = {0xff, 0xd0, 0x6e, 0x00, 0x16, 0x02, 0x18, 0x03, 0x30, 0x00, 0x00, 0x00, 0x30, 0x00, 0x00, 0x00,
+                                      0xc1, 0xc2, 0xc3, 0xc4, 0xc5, 0xc6, 0xc7, 0xc8, 0x01, 0x00, 0x00, 0x10, 0x02, 0x00, 0x00, 0x00,
+                                      0xd1, 0xd2, 0xd3, 0xd4, 0xd5, 0xd6, 0xd7, 0xd8, 0xaa, 0xbb, 0x5a, 0x5a, 0x5a, 0x5a, 0x5a, 0x5a};
+
+/* the first bytes of one with size 65,536: tag 1 with 65,512 bytes, which are to be 5a */
+static const uint8_t full[24] = {0xff, 0xd0, 0x6e, 0x00, 0xd3, 0x01, 0x10, 0x03, 0x00, 0x00, 0x01, 0x00,
+                                 0x00, 0x00, 0x01, 0x00, 0x01, 0x00, 0x00, 0x08, 0xe8, 0xff, 0x00, 0x00};
+
+/* Not a call: a list of edition 0.9, since the library makes none. Every further byte of the area is ee. */
+static void list09(const uint8_t *bytes, size_t n, size_t new_len, uint64_t new_base)
+{
+    len = new_len;
+    base = new_base;
+    memset(area.now, 0xee, SPACE);
+    memcpy(area.now, bytes, n);
+    printf("by hand: a list of edition 0.9, %zu bytes at 0x%" PRIx64 ", the first %zu of them\n", len, base, n);
+    show_hex(area.now, n);
+}
+
+/* Not a call: the area is now the target from the shift on, where a conversion has put its list. */
+static void go_on(size_t target_len, uint64_t target_base, uint32_t shift)
+{
+    len = target_len - shift;
+    base = target_base + shift;
+    memcpy(area.now, target.now + shift, len);
+    printf("by hand: the area is the target from %" PRIu32 " on\n", shift);
+    show_hex(area.now, len);
+}
+
+static void every_call09(void)
+{
+    check09();
+    find09(1, 0);
+    convert09(48, 0x2000);
+}
+
+static void edition_09(void)
+{
+    title("edition 0.9: a new list of 16 bytes, which is SHORT for tl_check; converted");
+    list09(empty_16, 16, 16, 0x1000);
+    check09();
+    find09(1, 0);
+    check();
+    convert09(23, 0x2000);
+    convert09(24, 0x2000);
+    go_on(24, 0x2000, 0);
+    check();
+    title("edition 0.9: a new list of 64 bytes; each call of the current edition says SIGNATURE");
+    list09(empty_64, 16, 64, 0x1000);
+    every_call09();
+    every_call();
+    title("edition 0.9: of the list of example B each of its calls says SIGNATURE");
+    create(64, 0x1000, true);
+    add(1, 3, false);
+    every_call09();
+    title("edition 0.9: with an entry; converted, it is found in the same way");
+    list09(one_entry, 32, 64, 0x1000);
+    every_call09();
+    find09(1, 1);
+    convert09(64, 0x2000);
+    go_on(64, 0x2000, 0);
+    check();
+    find(1, 0);
+    check09();
+    title("edition 0.9: with voids; 9 TAG; 13 NONE, counted in 64 bits; a conversion judges no tag and no length of data");
+    list09(two_voids, 80, 96, 0x1000);
+    check09();
+    find09(6, 0);
+    find09(6, 1);
+    find09(6, 2);
+    find09(6, (uint64_t)1 << 32);
+    find09(0x800001, 0);
+    find09(0, 0);
+    find09(0x1000006, 0);
+    convert09(93, 0x2000);
+    go_on(93, 0x2000, 0);
+    check();
+    find(6, 0);
+    find(6, 1);
+    title("edition 0.9: version 2 with hdr_size 24 is read; 5 READONLY comes before SIZES, CHECKSUM and ENTRY");
+    list09(version_2, 48, 48, 0x1000);
+    every_call09();
+    put(6, 1, 15);
+    every_call09();
+    put(6, 1, 24);
+    put(4, 1, 0x17);
+    every_call09();
+    put(27, 1, 7);
+    put(28, 1, 17);
+    put(4, 1, 0x1c);
+    every_call09();
+    title("edition 0.9: version 2 with hdr_size 17 starts at 24 too; with 48 it has no entries; 49 is SIZES");
+    list09(version_2, 48, 48, 0x1000);
+    put(6, 1, 17);
+    put(4, 1, 0x0f);
+    check09();
+    find09(1, 0);
+    put(6, 1, 48);
+    put(4, 1, 0x2e);
+    check09();
+    put(6, 1, 49);
+    put(4, 1, 0x2f);
+    check09();
+}
+
+static void refusals_09(void)
+{
+    title("edition 0.9, 1 AREA: base no multiple of 8; no sum wraps; an area may end at 2^48, and not 8 bytes above; too long");
+    list09(one_entry, 32, 64, 0x1004);
+    every_call09();
+    base = UINT64_MAX - 63;
+    check09();
+    base = TOP - 56;
+    check09();
+    base = TOP - 64;
+    every_call09();
+    len = 65537;
+    base = 0x1000;
+    check09();
+    title("edition 0.9, 2 SHORT; 4 VERSION; 3 SIGNATURE, though the version is 0 as well");
+    len = 0;
+    check09();
+    len = 15;
+    every_call09();
+    len = 64;
+    put(5, 1, 0);
+    every_call09();
+    put(0, 1, 0xfe);
+    every_call09();
+    title("edition 0.9, 6 SIZES: hdr_size 24; alignment 2 and 13, while 12 passes");
+    list09(one_entry, 32, 64, 0x1000);
+    put(6, 1, 24);
+    every_call09();
+    put(6, 1, 16);
+    put(7, 1, 2);
+    check09();
+    put(7, 1, 13);
+    check09();
+    put(7, 1, 12);
+    put(4, 1, 0xb9);
+    check09();
+    title("edition 0.9, 6 SIZES: size 8, 36 and 72; max_size 24, 60 and 72");
+    list09(one_entry, 32, 64, 0x1000);
+    put(8, 1, 8);
+    check09();
+    put(8, 1, 36);
+    check09();
+    put(8, 1, 72);
+    check09();
+    put(8, 1, 32);
+    put(12, 1, 24);
+    check09();
+    put(12, 1, 60);
+    check09();
+    put(12, 1, 72);
+    check09();
+    title("edition 0.9, 7 CHECKSUM: the sum negated; a byte of padding changed; a byte behind size does not count");
+    list09(one_entry, 32, 64, 0x1000);
+    put(4, 1, 0x50);
+    every_call09();
+    put(4, 1, 0xb0);
+    put(31, 1, 0x5b);
+    check09();
+    put(31, 1, 0x5a);
+    put(32, 1, 0x00);
+    check09();
+    title("edition 0.9, 8 ENTRY: hdr_size 9; data_size 8 passes, 9, 0xfffffff8 and 0xffffffff exceed size; a void of 3");
+    list09(one_entry, 32, 64, 0x1000);
+    put(19, 1, 9);
+    put(4, 1, 0xb1);
+    every_call09();
+    put(19, 1, 8);
+    put(20, 1, 8);
+    put(4, 1, 0xb5);
+    check09();
+    put(20, 1, 9);
+    put(4, 1, 0xb6);
+    check09();
+    put(20, 1, 0xf8);
+    put(21, 3, 0xff);
+    put(4, 1, 0xa2);
+    check09();
+    put(20, 1, 0xff);
+    put(4, 1, 0xa9);
+    check09();
+    list09(one_entry, 32, 64, 0x1000);
+    put(16, 1, 0);
+    put(4, 1, 0xaf);
+    check09();
+    title("edition 0.9, 12 TARGET: too long; 8 bytes above 2^48; no sum wraps; one that ends there passes; 14 ROOM without a target");
+    list09(one_entry, 32, 64, 0x1000);
+    convert09(65537, 0x2000);
+    convert09(128, TOP - 120);
+    convert09(8, UINT64_MAX - 7);
+    convert09(65536, TOP - 65536);
+    convert09(0, TOP + 1);
+    convert09(0, TOP);
+    title("edition 0.9: a list of size 65,536 is 14 ROOM or 12 TARGET; one of size 65,528 goes into 65,536 bytes, and not into one less");
+    list09(full, 24, 65536, 0x1000);
+    put(24, 65512, 0x5a);
+    check09();
+    find09(1, 1);
+    convert09(65536, 0x2000);
+    convert09(65537, 0x2000);
+    put(4, 1, 0xf1);
+    put(8, 1, 0xf8);
+    put(9, 1, 0xff);
+    put(10, 1, 0x00);
+    put(20, 1, 0xe0);
+    check09();
+    convert09(65535, 0x2000);
+    convert09(65536, 0x2000);
+    convert09(65536, 0x1fff);
+}
+
+/* The list with an entry is converted into a target that has just enough bytes, after one that has one less, and is then read. */
+static void convert_at(uint64_t old_base, uint8_t alignment, uint8_t checksum, uint64_t target_base, uint32_t shift)
+{
+    list09(one_entry, 32, 64, old_base);
+    put(7, 1, alignment);
+    put(4, 1, checksum);
+    check09();
+    convert09(shift + 39, target_base);
+    convert09(shift + 40, target_base);
+    go_on(shift + 40, target_base, shift);
+    check();
+    find(1, 0);
+}
+
+static void conversions_09(void)
+{
+    title("edition 0.9: converted from base 0, alignment 3: shift 0, and 7 where the target's base is 1");
+    convert_at(0, 3, 0xb0, 0, 0);
+    convert_at(0, 3, 0xb0, 1, 7);
+    title("edition 0.9: from base 0, alignment 6: the new base is 56 modulo 64");
+    convert_at(0, 6, 0xb3, 0, 56);
+    convert_at(0, 6, 0xb3, 0x2039, 63);
+    title("edition 0.9: from base 0, alignment 12: the new base is 4088 modulo 4096");
+    convert_at(0, 12, 0xb9, 0, 4088);
+    convert_at(0, 12, 0xb9, 0x2ff8, 0);
+    title("edition 0.9: from base 0x1008, alignment 3; from base 8, alignment 6 and 12: the new base is 0 modulo 2^alignment");
+    convert_at(0x1008, 3, 0xb0, 0x2005, 3);
+    convert_at(8, 6, 0xb3, 0x2008, 56);
+    convert_at(8, 12, 0xb9, 0x3000, 0);
+    title("edition 0.9: data at 0x1040, alignment 6: then at 0x2040; data at 0x1000, alignment 12: then at 0x4000, shift 4095");
+    convert_at(0x1028, 6, 0xb3, 0x2008, 24);
+    convert_at(0xfe8, 12, 0xb9, 0x2fe1, 4095);
+}
+
 int main(void)
 {
     examples_a_to_h();
     examples_i_to_n();
     other_refusals();
+    edition_09();
+    refusals_09();
+    conversions_09();
     return 0;
 }

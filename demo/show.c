@@ -1,4 +1,4 @@
-/* Shows a transfer list: show [FILE [BASE]]. Without a file, a sample. Exit status 0 where it is accepted, 1 where it is refused. */
+/* Shows a transfer list of either edition: show [FILE [BASE]]. Without a file, a sample. Exit status 0 if accepted, 1 if refused. */
 #include <stdio.h>
 #include <stdlib.h>
 
@@ -29,5 +29,6 @@ int main(int argc, char **argv)
         fclose(f);
     }
     printf("%s, %zu bytes at 0x%llx: ", argc < 2 ? "sample" : argv[1], len, (unsigned long long)base);
-    return print_list(area, len, base) == 0 ? 0 : 1;
+    int old = len >= 16 && area[0] == 0xff && area[1] == 0xd0 && area[2] == 0x6e && area[3] == 0x00;
+    return (old ? print_list09(area, len, base) : print_list(area, len, base)) == 0 ? 0 : 1;
 }

@@ -11,9 +11,9 @@ static const char *const causes[] = {
     "",
     "the area is not usable: base no multiple of 8, too long, or above 2^48",
     "the area is too short for a list",
-    "this is not a transfer list",
+    "this is not a transfer list of this edition",
     "version 0 is illegal",
-    "a later version may be read and not edited",
+    "a later version may be read, not edited or converted",
     "a size or the alignment in the header is wrong",
     "the checksum rule is broken",
     "an entry breaks a rule",
@@ -75,15 +75,15 @@ static void print_data(const uint8_t *data, uint32_t size)
     printf("%s\n", shown < size ? " .." : "");
 }
 
-uint32_t print_list(const uint8_t *area, size_t len, uint64_t base)
+/* The answer of either edition's check; in both, hdr_size is at 6 and the entries are alike. */
+static uint32_t print_checked(tl_checked c, const uint8_t *area, uint64_t base, const char *checksum)
 {
-    tl_checked c = tl_check(area, len, base);
     if (c.number != 0) {
         print_refusal(c.number);
         return c.number;
     }
     printf("version %u, used %u of %u, alignment 2^%u, checksum %02x (%s), %u live, %u void\n", (unsigned)c.version, (unsigned)c.used,
-           (unsigned)c.total, (unsigned)c.alignment, area[4], area[16] & 1 ? "on" : "off", (unsigned)c.live, (unsigned)c.voids);
+           (unsigned)c.total, (unsigned)c.alignment, area[4], checksum, (unsigned)c.live, (unsigned)c.voids);
     printf("  offset  tag     kind                  size  address         data\n");
     for (uint32_t at = (area[6] + 7u) / 8 * 8; at < c.used;) {
         uint32_t tag = number_at(area, at, 3), hdr_size = area[at + 3], size = number_at(area, at + 4, 4);
@@ -93,6 +93,17 @@ uint32_t print_list(const uint8_t *area, size_t len, uint64_t base)
         at += (hdr_size + size + 7) / 8 * 8;
     }
     return 0;
+}
+
+uint32_t print_list(const uint8_t *area, size_t len, uint64_t base)
+{
+    tl_checked c = tl_check(area, len, base);
+    return print_checked(c, area, base, c.number == 0 && (area[16] & 1) ? "on" : "off");
+}
+
+uint32_t print_list09(const uint8_t *area, size_t len, uint64_t base)
+{
+    return print_checked(tl09_check(area, len, base), area, base, "a sum");
 }
 
 void print_hex(const uint8_t *bytes, size_t n)

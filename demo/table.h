@@ -15,6 +15,9 @@ void print_refusal(uint32_t number);
 /* The list's header line and a row for each entry, or the refusal. Returns the check's number. */
 uint32_t print_list(const uint8_t *area, size_t len, uint64_t base);
 
+/* The same of a list of edition 0.9, where `used` shows its size of its max_size. */
+uint32_t print_list09(const uint8_t *area, size_t len, uint64_t base);
+
 /* The first n bytes, sixteen to a line. */
 void print_hex(const uint8_t *bytes, size_t n);
 

@@ -1,5 +1,6 @@
 /*
  * transfer_list.h: transfer lists of the Firmware Handoff specification: check, find, create, add, void, relocate.
+ * Of lists still in its edition 0.9: check, find, convert into a current list.
  *
  * Every function takes any bytes at any stated address, of any size. It ends, reads and writes only the memory that it is lent, and
  * gives the answer or one numbered refusal. A refused call changes no byte. Nothing has to be checked before calling.
@@ -19,15 +20,19 @@
 extern "C" {
 #endif
 
-/* The numbers of refusals. A refusal answers its number, and every other number in the answer is 0. */
+/*
+ * The numbers of refusals. A refusal answers its number, and every other number in the answer is 0.
+ * In lists of edition 0.9, which the tl09_ functions are for, used_size is called size, and total_size max_size.
+ */
 #define TL_ACCEPTED 0u   /* not refused */
 #define TL_AREA 1u       /* base is no multiple of 8, base + len exceeds 2^48, or len exceeds 65,536 */
-#define TL_SHORT 2u      /* len is under 24; for tl_create, 24 or less */
-#define TL_SIGNATURE 3u  /* the signature is not 0x4a0fb10b */
+#define TL_SHORT 2u      /* len is under 24; for tl_create, 24 or less; in edition 0.9, under 16 */
+#define TL_SIGNATURE 3u  /* the signature is not 0x4a0fb10b; in edition 0.9, not 0x006ed0ff */
 #define TL_VERSION 4u    /* the version is 0 */
-#define TL_READONLY 5u   /* the version is over 1 and the call is an edit */
+#define TL_READONLY 5u   /* the version is over 1 and the call is an edit or a conversion */
 #define TL_SIZES 6u      /* hdr_size, alignment, used_size or total_size is wrong, or total_size exceeds len */
-#define TL_CHECKSUM 7u   /* with has_checksum the exclusive or of the used bytes is not 0; without it the checksum byte is not 0 */
+#define TL_CHECKSUM 7u   /* with has_checksum the exclusive or of the used bytes is not 0; without it the checksum byte is not 0; */
+                         /* in edition 0.9, the checksum byte is not the sum modulo 256 of the other used bytes */
 #define TL_ENTRY 8u      /* an entry's hdr_size is wrong, it exceeds used_size, or a void's data_size is no multiple of 8 */
 #define TL_TAG 9u        /* the tag is 0 or over 0xffffff; for the adds also 0x800000 to 0xffefff */
 #define TL_SHAPE 10u     /* the tag may not carry data of this length */
@@ -54,7 +59,7 @@ typedef struct {
     uint32_t size;   /* how many bytes of data, without padding */
 } tl_found;
 
-/* What create and the edits answer. */
+/* What create, the edits and the conversion answer. */
 typedef struct {
     uint32_t number; /* 0, or the number of the refusal */
     uint32_t value;  /* what the function says */
@@ -95,13 +100,13 @@ tl_found tl_find(const uint8_t *area, size_t len, uint64_t base, uint32_t tag, u
 
 /**
  * tl_data - the data that a find found
- * @area: the area that was given to tl_find()
+ * @area: the area that was given to tl_find() or tl09_find()
  * @found: its answer
  *
  * tl_data() gives a pointer to the data itself, inside the area and not a copy, of which found.size bytes are the entry's. Of a refused
  * find it gives the start of the area, with found.size 0. It is a small inline helper and not proved: it believes found, which must be
- * what tl_find() answered for these very bytes. The proved form that hands back the part itself is the Rattle function tl_find_data in
- * crates/transfer_list; a function that returns a slice cannot be exported to C.
+ * what tl_find() or tl09_find() answered for these very bytes. The proved forms that hand back the part itself are the Rattle functions
+ * tl_find_data and tl09_find_data in crates/transfer_list; a function that returns a slice cannot be exported to C.
  *
  * returns:
  *	a pointer to found.size bytes
@@ -213,6 +218,81 @@ tl_done tl_void(uint8_t *area, size_t len, uint64_t base, uint32_t tag, uint64_t
  *	TL_ROOM, shift + used_size exceeds target_len
  */
 tl_done tl_relocate(const uint8_t *area, size_t len, uint64_t base, uint8_t *target, size_t target_len, uint64_t target_base);
+
+/*
+ * Edition 0.9 of the specification, which some stages still hand their lists over in. Its header has 16 bytes: the signature 0x006ed0ff,
+ * then checksum, version, hdr_size, alignment, size and max_size, where a current header has its first fields, and no flags. There is
+ * always a checksum: byte 4 equals the sum modulo 256 of bytes 0 to size - 1 without byte 4. Entries are those of a current list. Lists
+ * of edition 0.9 can be checked, searched and converted into current lists, not created or edited. The functions above that read a list
+ * refuse them with TL_SIGNATURE (tl_create() overwrites whatever is there), and so do the functions below with current lists, where no
+ * lower number's cause is there.
+ */
+
+/**
+ * tl09_check - check a transfer list of edition 0.9
+ * @area: the bytes of the area that holds the list
+ * @len: the number of bytes of the area
+ * @base: the address at which the area stands
+ *
+ * tl09_check() walks the list and checks every rule of it. Lists of version 1 and above are accepted. The area is only read.
+ *
+ * returns:
+ *	number 0, and the list's version, its size as used, its max_size as total, its alignment, and its numbers of live and void entries
+ *	TL_AREA, base is no multiple of 8, base + len exceeds 2^48, or len exceeds 65,536
+ *	TL_SHORT, len is under 16
+ *	TL_SIGNATURE, the signature is not 0x006ed0ff
+ *	TL_VERSION, the version is 0
+ *	TL_SIZES, hdr_size is not 16 (version 1) or is under 16 (above), alignment is outside 3 to 12, size or max_size is no multiple of 8,
+ *	size is under hdr_size rounded up to a multiple of 8, size exceeds max_size, or max_size exceeds len
+ *	TL_CHECKSUM, the checksum byte is not the sum modulo 256 of the other bytes of size
+ *	TL_ENTRY, an entry's hdr_size is not 8 (version 1) or is under 8 (above), it reaches beyond size, or a void's data_size is no
+ *	multiple of 8
+ *	of these, the least number whose cause is there
+ */
+tl_checked tl09_check(const uint8_t *area, size_t len, uint64_t base);
+
+/**
+ * tl09_find - find the data of an entry in a list of edition 0.9
+ * @area: the bytes of the area that holds the list
+ * @len: the number of bytes of the area
+ * @base: the address at which the area stands
+ * @tag: the entry's tag
+ * @n: which occurrence of the tag, counted from 0 in list order
+ *
+ * tl09_find() checks the list as tl09_check() does, and then looks for the entry. The area is only read. tl_data() serves its answer too.
+ *
+ * returns:
+ *	number 0, and the offset and size of the data
+ *	each refusal of tl09_check()
+ *	TL_TAG, the tag is 0 or over 0xffffff
+ *	TL_NONE, the list has no such occurrence of the tag
+ */
+tl_found tl09_find(const uint8_t *area, size_t len, uint64_t base, uint32_t tag, uint64_t n);
+
+/**
+ * tl09_convert - convert a list of edition 0.9 into a current list
+ * @area: the bytes of the area that holds the list of edition 0.9
+ * @len: the number of bytes of the area
+ * @base: the address at which the area stands
+ * @target: the bytes of the target to write
+ * @target_len: the number of bytes of the target
+ * @target_base: the address at which the target stands; it need not be a multiple of 8
+ *
+ * tl09_convert() checks the list, and then writes a current list of version 1 with has_checksum and the same entries. It starts at the
+ * lowest address at or above target_base that equals base - 8 modulo 2^alignment: its header is 8 bytes longer, so that each data
+ * address keeps its value modulo 2^alignment. The header is that of a new list, but that alignment is the old one, used_size is size + 8,
+ * total_size is what is left of the target from there, rounded down to a multiple of 8, and the checksum byte is that of the new list.
+ * The entries' bytes are copied as they stand, padding and voids' data too; neither a tag nor a data length is judged. Every other byte
+ * of the target becomes 0. The area is only read. The list is then in the target from the shift on, at target_base + shift.
+ *
+ * returns:
+ *	number 0, and the shift
+ *	each refusal of tl09_check()
+ *	TL_READONLY, the list's version is over 1; it comes after TL_VERSION and before TL_SIZES
+ *	TL_TARGET, target_base + target_len exceeds 2^48 or target_len exceeds 65,536
+ *	TL_ROOM, shift + size + 8 exceeds target_len; so a list whose size is 65,536 cannot be converted
+ */
+tl_done tl09_convert(const uint8_t *area, size_t len, uint64_t base, uint8_t *target, size_t target_len, uint64_t target_base);
 
 #ifdef __cplusplus
 }

@@ -10,10 +10,13 @@ extern "C" {
     fn tl_find(area: *const u8, len: usize, base: u64, tag: u32, n: u64) -> Found;
     fn tl_add(area: *mut u8, len: usize, base: u64, tag: u32, data: *const u8, n: usize, voids: bool) -> Done;
     fn tl_void(area: *mut u8, len: usize, base: u64, tag: u32, n: u64) -> Done;
+    fn tl09_check(area: *const u8, len: usize, base: u64) -> Checked;
+    fn tl09_convert(area: *const u8, len: usize, base: u64, target: *mut u8, target_len: usize, target_base: u64) -> Done;
 }
 
 const LENGTH: usize = 65536;
 const BASE: u64 = 0x1000;
+const TARGET_BASE: u64 = 0x20000;
 const LAST: u32 = 0xff_f001;
 const DATA: [u8; 64] = [0x5a; 64];
 
@@ -33,6 +36,14 @@ fn library_void(area: &mut [u8]) -> Done {
     unsafe { tl_void(area.as_mut_ptr(), area.len(), BASE, LAST, 0) }
 }
 
+fn library_check09(area: &[u8]) -> Checked {
+    unsafe { tl09_check(area.as_ptr(), area.len(), BASE) }
+}
+
+fn library_convert09(area: &[u8], target: &mut [u8]) -> Done {
+    unsafe { tl09_convert(area.as_ptr(), area.len(), BASE, target.as_mut_ptr(), target.len(), TARGET_BASE) }
+}
+
 /// A list of 65,536 bytes with checksums on: entries with a tag and a data size each, in order, from 24 on.
 fn list(entries: impl IntoIterator<Item = (u32, usize)>) -> Vec<u8> {
     let mut a = vec![0u8; LENGTH];
@@ -40,7 +51,25 @@ fn list(entries: impl IntoIterator<Item = (u32, usize)>) -> Vec<u8> {
     a[5..8].copy_from_slice(&[1, 24, 3]);
     a[12..16].copy_from_slice(&(LENGTH as u32).to_le_bytes());
     a[16] = 1;
-    let mut at = 24;
+    let used = put_entries(&mut a, 24, entries);
+    a[4] = a[..used].iter().fold(0, |x, b| x ^ b);
+    a
+}
+
+/// The same in edition 0.9: entries from 16 on, and the sum.
+fn list09(entries: impl IntoIterator<Item = (u32, usize)>) -> Vec<u8> {
+    let mut a = vec![0u8; LENGTH];
+    a[..4].copy_from_slice(&0x006e_d0ffu32.to_le_bytes());
+    a[5..8].copy_from_slice(&[1, 16, 3]);
+    a[12..16].copy_from_slice(&(LENGTH as u32).to_le_bytes());
+    let size = put_entries(&mut a, 16, entries);
+    a[4] = a[..size].iter().fold(0, |sum, b| sum.wrapping_add(*b));
+    a
+}
+
+/// Writes the entries, and the used size, which it answers.
+fn put_entries(a: &mut [u8], first: usize, entries: impl IntoIterator<Item = (u32, usize)>) -> usize {
+    let mut at = first;
     for (tag, size) in entries {
         a[at..at + 3].copy_from_slice(&tag.to_le_bytes()[..3]);
         a[at + 3] = 8;
@@ -51,8 +80,7 @@ fn list(entries: impl IntoIterator<Item = (u32, usize)>) -> Vec<u8> {
         at += (8 + size).div_ceil(8) * 8;
     }
     a[8..12].copy_from_slice(&(at as u32).to_le_bytes());
-    a[4] = a[..at].iter().fold(0, |x, b| x ^ b);
-    a
+    at
 }
 
 /// The least time of a call in nanoseconds, over rounds of calls that take turns.
@@ -126,6 +154,26 @@ fn time_edit(what: &str, area: &[u8], library: impl Fn(&mut [u8]) -> Done, plain
     report(what, times);
 }
 
+/// Times a conversion into a target of 65,536 bytes.
+fn time_convert09(what: &str, area: &[u8]) {
+    let (mut one, mut other) = (vec![0xee; LENGTH], vec![0xee; LENGTH]);
+    let done = plain::convert09(area, BASE, &mut other, TARGET_BASE);
+    assert_eq!(done.number, 0, "{what}");
+    assert_eq!(library_convert09(area, &mut one), done, "{what}");
+    assert!(one == other, "{what}: the bytes differ");
+    let times = least(
+        200,
+        50,
+        || {
+            black_box(library_convert09(black_box(area), black_box(&mut one)));
+        },
+        || {
+            black_box(plain::convert09(black_box(area), BASE, black_box(&mut other), TARGET_BASE));
+        },
+    );
+    report(what, times);
+}
+
 fn main() {
     time_check("check, 65,536 bytes, one entry", &list([(1, LENGTH - 32)]));
     time_check("check, 65,536 bytes, entries of 8 bytes", &list((0..(LENGTH - 24) / 8).map(|_| (1, 0))));
@@ -154,4 +202,8 @@ fn main() {
         |a| library_add(a, true),
         |a| plain::add(a, BASE, LAST, &DATA, true),
     );
+    let old = list09([(1, LENGTH - 24)]);
+    assert_eq!(library_check09(&old).number, 0);
+    time_reading("edition 0.9: check, 65,536 bytes, one entry", &old, library_check09, |a| plain::check09(a, BASE, false));
+    time_convert09("edition 0.9: convert, 65,000 bytes, one entry", &list09([(1, 65000 - 24)]));
 }

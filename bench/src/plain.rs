@@ -35,13 +35,26 @@ fn header_size_wrong(version: u8, own: u8, size: u8) -> bool {
 /// The check, `editing` for an edit's admission.
 #[inline(never)]
 pub fn check(area: &[u8], base: u64, editing: bool) -> Checked {
+    let summed = |list: &[u8]| if area[16] & 1 == 1 { xor(list) == 0 } else { area[4] == 0 };
+    check_edition(area, base, editing, 0x4a0f_b10b, 24, summed)
+}
+
+/// The check of a list of edition 0.9, `converting` for a conversion's admission.
+#[inline(never)]
+pub fn check09(area: &[u8], base: u64, converting: bool) -> Checked {
+    check_edition(area, base, converting, 0x006e_d0ff, 16, |list| sum(list).wrapping_sub(area[4]) == area[4])
+}
+
+/// The check with an edition's signature, own header size and checksum rule. It becomes a part of each of the two.
+#[inline(always)]
+fn check_edition(area: &[u8], base: u64, editing: bool, signature: u32, own: u8, summed: impl FnOnce(&[u8]) -> bool) -> Checked {
     if base % 8 != 0 || area.len() > 65536 || base > 1 << 48 || base + area.len() as u64 > 1 << 48 {
         return refused(1);
     }
-    if area.len() < 24 {
+    if area.len() < own as usize {
         return refused(2);
     }
-    if word(area, 0) != 0x4a0f_b10b {
+    if word(area, 0) != signature {
         return refused(3);
     }
     let (version, hdr_size, alignment) = (area[5], area[6], area[7]);
@@ -53,7 +66,7 @@ pub fn check(area: &[u8], base: u64, editing: bool) -> Checked {
     }
     let (used, total) = (word(area, 8), word(area, 12));
     let first = align8(hdr_size as u64);
-    if header_size_wrong(version, 24, hdr_size)
+    if header_size_wrong(version, own, hdr_size)
         || !(3..=12).contains(&alignment)
         || used % 8 != 0
         || total % 8 != 0
@@ -64,8 +77,7 @@ pub fn check(area: &[u8], base: u64, editing: bool) -> Checked {
         return refused(6);
     }
     let list = &area[..used as usize];
-    let sum_ok = if area[16] & 1 == 1 { xor(list) == 0 } else { area[4] == 0 };
-    if !sum_ok {
+    if !summed(list) {
         return refused(7);
     }
     let (mut at, mut live, mut voids) = (first as usize, 0, 0);
@@ -105,6 +117,11 @@ fn refused_edit(number: u32) -> Done {
 #[inline(never)]
 fn xor(bytes: &[u8]) -> u8 {
     bytes.iter().fold(0, |x, b| x ^ b)
+}
+
+#[inline(never)]
+fn sum(bytes: &[u8]) -> u8 {
+    bytes.iter().fold(0, |sum, b| sum.wrapping_add(*b))
 }
 
 /// Places, tags and data sizes of an accepted version 1 list.
@@ -225,4 +242,33 @@ pub fn void(area: &mut [u8], base: u64, tag: u32, n: u64) -> Done {
         a[at + 8..at + 8 + padded].fill(0);
     });
     Done { number: 0, value: at as u32 }
+}
+
+/// Conversion from edition 0.9, with the same answers and bytes as the library's.
+#[inline(never)]
+pub fn convert09(area: &[u8], base: u64, target: &mut [u8], target_base: u64) -> Done {
+    let c = check09(area, base, true);
+    if c.number != 0 {
+        return refused_edit(c.number);
+    }
+    let len = target.len();
+    if len > 65536 || target_base > 1 << 48 || target_base + len as u64 > 1 << 48 {
+        return refused_edit(12);
+    }
+    let shift = (base.wrapping_sub(8).wrapping_sub(target_base) & ((1 << c.alignment) - 1)) as usize;
+    let (size, used) = (c.used as usize, c.used as usize + 8);
+    if shift + used > len {
+        return refused_edit(14);
+    }
+    target[..shift].fill(0);
+    target[shift + used..].fill(0);
+    let list = &mut target[shift..shift + used];
+    list[..4].copy_from_slice(&0x4a0f_b10bu32.to_le_bytes());
+    list[4..8].copy_from_slice(&[0, 1, 24, c.alignment as u8]);
+    list[8..12].copy_from_slice(&(used as u32).to_le_bytes());
+    list[12..16].copy_from_slice(&((len - shift) as u32 & !7).to_le_bytes());
+    list[16..24].copy_from_slice(&1u64.to_le_bytes());
+    list[24..].copy_from_slice(&area[16..size]);
+    list[4] = xor(list);
+    Done { number: 0, value: shift as u32 }
 }

@@ -4,14 +4,26 @@
 use crate::lent::{Guards, Lent};
 use crate::library;
 use oracle::lists::List;
-use oracle::model::{self, Answer};
+use oracle::model::{self, Answer, Edition};
 use oracle::params::{self, Facts};
 use oracle::rng::Rng;
 use oracle::tally::{Call, Tally};
 use std::fmt::Write;
 
-/// Finds per list.
-const FINDS: usize = 5;
+/// How often each call is made on a list; a check and a create once.
+pub struct Times {
+    pub finds: usize,
+    pub adds: usize,
+    pub aligned_adds: usize,
+    pub voids: usize,
+    pub relocations: usize,
+    pub conversions: usize,
+}
+
+/// Calls of the list's own edition.
+const OWN: Times = Times { finds: 5, adds: 6, aligned_adds: 4, voids: 4, relocations: 4, conversions: 8 };
+/// Calls of the other edition, which mostly look no further than the signature.
+const OTHER: Times = Times { finds: 1, adds: 1, aligned_adds: 1, voids: 1, relocations: 1, conversions: 1 };
 
 pub struct Bench {
     pub tally: Tally,
@@ -37,20 +49,28 @@ impl Bench {
         Bench { tally: Tally::default(), guards: Guards::new(seed) }
     }
 
-    /// All calls on one list.
+    /// All calls on one list, those of the other edition too.
     pub fn list(&mut self, rng: &mut Rng, list: &List) -> Result<(), String> {
+        let (current, old) = match list.edition {
+            Edition::Current => (OWN, OTHER),
+            Edition::E09 => (OTHER, OWN),
+        };
+        self.current(rng, list, &current)?;
+        self.edition09(rng, list, &old)
+    }
+
+    fn current(&mut self, rng: &mut Rng, list: &List, times: &Times) -> Result<(), String> {
         let facts = Facts::of(list);
         self.check(list)?;
-        for _ in 0..FINDS {
+        for _ in 0..times.finds {
             let (tag, n) = params::wanted(rng, &facts);
             self.find(list, tag, n)?;
         }
-        self.edits(rng, list, &facts)?;
-        self.relocations(rng, list, &facts)?;
-        Ok(())
+        self.edits(rng, list, &facts, times)?;
+        self.relocations(rng, list, &facts, times)
     }
 
-    fn check(&mut self, list: &List) -> Result<(), String> {
+    pub fn check(&mut self, list: &List) -> Result<(), String> {
         let mut area = self.guards.lend(&list.area);
         let wanted = model::check(&list.area, list.base);
         let given = library::check(&mut area, list.base);
@@ -92,7 +112,7 @@ impl Bench {
 }
 
 impl Asked<'_> {
-    /// A report where the model itself does not keep demand 3.
+    /// A report where the model itself does not keep what is demanded.
     pub fn demand(&self, held: Result<(), String>, buffers: &[Buffer]) -> Result<(), String> {
         held.map_err(|broken| format!("{}\n  {broken}", self.with_inputs(buffers)))
     }

@@ -12,7 +12,8 @@ pub enum Edit<'a> {
     Void { tag: u32, n: u64 },
 }
 
-/// An accepted relocation: what was lent, what the target holds afterwards, and the answer.
+/// An accepted relocation or conversion: what was lent, what the target holds afterwards, and the
+/// answer.
 pub struct Relocation<'a> {
     pub area: &'a [u8],
     pub base: u64,
@@ -25,18 +26,18 @@ pub struct Relocation<'a> {
 type Reading<'a> = Vec<(u32, &'a [u8])>;
 
 /// One entry of a walk, live or void.
-struct Step<'a> {
+pub(crate) struct Step<'a> {
     place: usize,
     tag: u32,
     data_offset: usize,
     data: &'a [u8],
 }
 
-fn number(bytes: &[u8]) -> usize {
+pub(crate) fn number(bytes: &[u8]) -> usize {
     bytes.iter().rev().fold(0, |sum, byte| sum * 256 + *byte as usize)
 }
 
-fn used(area: &[u8]) -> usize {
+pub(crate) fn used(area: &[u8]) -> usize {
     number(&area[8..12])
 }
 
@@ -45,7 +46,7 @@ fn up_to_8(size: usize) -> usize {
 }
 
 /// "Walks an area's bytes alone."
-fn steps(area: &[u8]) -> Vec<Step<'_>> {
+pub(crate) fn steps(area: &[u8]) -> Vec<Step<'_>> {
     let mut steps = Vec::new();
     let mut place = up_to_8(area[6] as usize);
     while place != used(area) {
@@ -58,7 +59,7 @@ fn steps(area: &[u8]) -> Vec<Step<'_>> {
     steps
 }
 
-fn live<'a>(steps: &[Step<'a>]) -> Reading<'a> {
+pub(crate) fn live<'a>(steps: &[Step<'a>]) -> Reading<'a> {
     steps.iter().filter(|step| step.tag != 0).map(|step| (step.tag, step.data)).collect()
 }
 
@@ -72,16 +73,16 @@ fn fresh_checksum(area: &[u8]) -> u8 {
     used[..4].iter().chain(&used[5..]).fold(0, |sum, byte| sum ^ byte)
 }
 
-fn demand(holds: bool, what: &str) -> Result<(), String> {
+pub(crate) fn demand(holds: bool, what: &str) -> Result<(), String> {
     if holds {
         Ok(())
     } else {
-        Err(format!("the model breaks demand 3: {what}"))
+        Err(format!("the model breaks what is demanded: {what}"))
     }
 }
 
 /// The result of any accepted edit is a list of version 1 with the checksum worked out afresh.
-fn is_whole(result: &[u8], base: u64) -> Result<(), String> {
+pub(crate) fn is_whole(result: &[u8], base: u64) -> Result<(), String> {
     let checked = model::check(result, base);
     demand(checked.number == 0 && checked.version == 1, "the result is accepted as version 1")?;
     demand(result[4] == fresh_checksum(result), "the checksum equals the fresh one")
@@ -194,13 +195,17 @@ pub fn after_relocation(moved: &Relocation) -> Result<(), String> {
     let (old_steps, new_steps) = (steps(moved.area), steps(result));
     demand(live(&old_steps) == live(&new_steps), "relocation leaves the reading as it was")?;
     demand(used_bytes_kept(moved.area, result), "of the used bytes only 4 and 12 to 15 differ")?;
-    let zero = |bytes: &[u8]| bytes.iter().all(|byte| *byte == 0);
-    let rest_is_zero = zero(&moved.target[..shift]) && zero(&result[used(result)..]);
-    demand(rest_is_zero, "every other target byte is 0")?;
+    demand(rest_is_zero(moved), "every other target byte is 0")?;
     let boundary = 1 << moved.area[7];
     let addresses_keep =
         data_addresses(&old_steps, moved.base, boundary) == data_addresses(&new_steps, new_base, boundary);
     demand(addresses_keep, "data addresses keep their value modulo 2^alignment")
+}
+
+/// Whether the target is 0 before the shift and behind the result's used bytes.
+pub(crate) fn rest_is_zero(moved: &Relocation) -> bool {
+    let (before, result) = moved.target.split_at(moved.shift as usize);
+    before.iter().chain(&result[used(result)..]).all(|byte| *byte == 0)
 }
 
 /// "In a relocation, of the used bytes only 4 and 12 to 15 may differ from the old list."
@@ -210,7 +215,7 @@ fn used_bytes_kept(area: &[u8], result: &[u8]) -> bool {
 }
 
 /// "A data address is the base plus the data's offset", here modulo 2^alignment.
-fn data_addresses(steps: &[Step], base: u64, boundary: u64) -> Vec<u64> {
+pub(crate) fn data_addresses(steps: &[Step], base: u64, boundary: u64) -> Vec<u64> {
     steps.iter().map(|step| (base + step.data_offset as u64) % boundary).collect()
 }
 

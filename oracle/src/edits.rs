@@ -1,6 +1,6 @@
 //! The comparisons of create, add, add aligned and void.
 
-use crate::compare::{untouched, Asked, Bench, Buffer};
+use crate::compare::{untouched, Asked, Bench, Buffer, Times};
 use crate::lent::Lent;
 use crate::library;
 use oracle::demand::{self, Edit};
@@ -10,28 +10,23 @@ use oracle::params::{self, Facts};
 use oracle::rng::Rng;
 use oracle::tally::Call;
 
-// Calls of each kind per list.
-const ADDS: usize = 6;
-const ALIGNED_ADDS: usize = 4;
-const VOIDS: usize = 4;
-
 impl Bench {
-    pub fn edits(&mut self, rng: &mut Rng, list: &List, facts: &Facts) -> Result<(), String> {
+    pub fn edits(&mut self, rng: &mut Rng, list: &List, facts: &Facts, times: &Times) -> Result<(), String> {
         let noise = rng.bytes(list.area.len());
         self.create(&noise, list.base, rng.once_in(2))?;
-        for _ in 0..ADDS {
+        for _ in 0..times.adds {
             let tag = params::new_tag(rng);
             let length = params::data_len(rng, facts, tag, 0);
             let use_voids = !rng.once_in(3);
             self.edit(list, &Edit::Add { tag, data: &rng.bytes(length), use_voids })?;
         }
-        for _ in 0..ALIGNED_ADDS {
+        for _ in 0..times.aligned_adds {
             let tag = params::new_tag(rng);
             let exponent = params::exponent(rng);
             let length = params::data_len(rng, facts, tag, params::padding(facts, exponent));
             self.edit(list, &Edit::AddAligned { tag, data: &rng.bytes(length), exponent })?;
         }
-        for _ in 0..VOIDS {
+        for _ in 0..times.voids {
             let (tag, n) = params::wanted(rng, facts);
             self.edit(list, &Edit::Void { tag, n })?;
         }

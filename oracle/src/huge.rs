@@ -8,11 +8,11 @@ use crate::library;
 use oracle::model;
 use oracle::tally::Call;
 
-const BASE: u64 = 0x1000;
-const TAG: u32 = 1;
-const SMALL: usize = 128;
+pub const BASE: u64 = 0x1000;
+pub const TAG: u32 = 1;
+pub const SMALL: usize = 128;
 /// Cut to 32 bits this is SMALL.
-const HUGE: usize = (1 << 32) + SMALL;
+pub const HUGE: usize = (1 << 32) + SMALL;
 
 /// A list with one entry and room for more.
 fn small_list() -> Vec<u8> {
@@ -22,8 +22,17 @@ fn small_list() -> Vec<u8> {
     list
 }
 
-fn asked(call: Call) -> Asked<'static> {
+pub fn asked(call: Call) -> Asked<'static> {
     Asked { call, numbers: &|| format!("base {BASE:#x}, a buffer of more than 2^32 bytes") }
+}
+
+/// A report where a buffer of zeros behind the list holds something else now.
+pub fn unwritten(huge: &Lent, list: &[u8]) -> Result<(), String> {
+    if huge.is_zero_behind(list) {
+        Ok(())
+    } else {
+        Err("a call wrote to a buffer of more than 2^32 bytes".to_string())
+    }
 }
 
 impl Bench {
@@ -40,11 +49,7 @@ impl Bench {
         self.edit_huge_area(&mut huge)?;
         self.relocate_huge(&list, &mut huge)?;
         self.add_huge_data(&list, &mut huge)?;
-        if huge.is_zero_behind(&list) {
-            Ok(())
-        } else {
-            Err("a call wrote to a buffer of more than 2^32 bytes".to_string())
-        }
+        unwritten(&huge, &list)
     }
 
     fn read_huge_area(&mut self, huge: &mut Lent) -> Result<(), String> {

@@ -1,12 +1,19 @@
-//! The second implementation of document 01: the model of its seven jobs, the lists it is tried on,
-//! and its demand 3 said once more. Nothing here needs the library under test.
+//! The second implementation of document 01 and of document 02, request 1: the model of their jobs,
+//! the lists it is tried on, and what is demanded of a result said once more. Nothing here needs the
+//! library under test.
 
+pub mod damage;
 pub mod demand;
+pub mod demand09;
 pub mod lists;
+pub mod lists09;
 pub mod model;
+pub mod model09;
 pub mod params;
 pub mod rng;
 pub mod tally;
 
 #[cfg(test)]
 mod examples;
+#[cfg(test)]
+mod examples09;

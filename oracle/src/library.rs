@@ -18,6 +18,10 @@ extern "C" {
     fn tl_void(area: *mut u8, len: usize, base: u64, tag: u32, n: u64) -> Done;
     fn tl_relocate(area: *const u8, len: usize, base: u64,
                    target: *mut u8, target_len: usize, target_base: u64) -> Done;
+    fn tl09_check(area: *const u8, len: usize, base: u64) -> Checked;
+    fn tl09_find(area: *const u8, len: usize, base: u64, tag: u32, n: u64) -> Found;
+    fn tl09_convert(area: *const u8, len: usize, base: u64,
+                    target: *mut u8, target_len: usize, target_base: u64) -> Done;
 }
 
 // SAFETY of every call below: a Lent owns the bytes behind its pointer, its length is theirs, and
@@ -56,4 +60,19 @@ pub fn void(area: &mut Lent, base: u64, tag: u32, n: u64) -> Done {
 pub fn relocate(area: &mut Lent, base: u64, target: &mut Lent, target_base: u64) -> Done {
     watch::call(Call::Relocate);
     unsafe { tl_relocate(area.pointer(), area.len(), base, target.pointer(), target.len(), target_base) }
+}
+
+pub fn check09(area: &mut Lent, base: u64) -> Checked {
+    watch::call(Call::Check09);
+    unsafe { tl09_check(area.pointer(), area.len(), base) }
+}
+
+pub fn find09(area: &mut Lent, base: u64, tag: u32, n: u64) -> Found {
+    watch::call(Call::Find09);
+    unsafe { tl09_find(area.pointer(), area.len(), base, tag, n) }
+}
+
+pub fn convert09(area: &mut Lent, base: u64, target: &mut Lent, target_base: u64) -> Done {
+    watch::call(Call::Convert09);
+    unsafe { tl09_convert(area.pointer(), area.len(), base, target.pointer(), target.len(), target_base) }
 }

@@ -1,14 +1,18 @@
 //! A seeded source of lists of every kind: whole ones made by rows of edits, whole ones laid out by
-//! hand (later versions, longer headers, odd flags, padding that is not 0), damaged ones, cut ones,
-//! ones at bad addresses, and noise.
+//! hand (later versions, longer headers, odd flags, padding that is not 0), and noise; then damaged
+//! ones, cut ones and ones at bad addresses.
 
-use crate::model::{self, align8, field, put_u32, ADDRESS_END, LONGEST_AREA, SIGNATURE_WORD};
+use crate::damage::spoil;
+use crate::lists09;
+use crate::model::{self, align8, field, put_u32, Edition, ADDRESS_END, LONGEST_AREA};
 use crate::rng::Rng;
 
-/// A list as it is lent: the bytes of the area and the stated base address.
+/// A list as it is lent: the bytes of the area and the stated base address; and the edition that it
+/// was made by, which the bytes need not tell any more.
 pub struct List {
     pub area: Vec<u8>,
     pub base: u64,
+    pub edition: Edition,
 }
 
 /// An entry as it stands in the bytes, sound or not.
@@ -19,14 +23,9 @@ pub struct Row {
     pub data_size: u32,
 }
 
-/// A list of any kind.
+/// A list of any kind; one in five is of edition 0.9.
 pub fn any(rng: &mut Rng) -> List {
-    let mut list = match rng.below(16) {
-        0..=6 => edited(rng),
-        7..=10 => laid_out(rng, 1),
-        11..=14 => later_version(rng),
-        _ => noise(rng),
-    };
+    let mut list = if rng.once_in(5) { lists09::whole(rng) } else { whole(rng) };
     if rng.once_in(2) {
         spoil(rng, &mut list);
         if rng.once_in(4) {
@@ -36,18 +35,24 @@ pub fn any(rng: &mut Rng) -> List {
     list
 }
 
-fn spoil(rng: &mut Rng, list: &mut List) {
-    match rng.below(5) {
-        0..=2 => damage(rng, &mut list.area),
-        3 => resize(rng, &mut list.area),
-        _ => list.base = bad_base(rng, list.area.len()),
+fn whole(rng: &mut Rng) -> List {
+    match rng.below(16) {
+        0..=6 => edited(rng),
+        7..=10 => laid_out(rng, Edition::Current, 1),
+        11..=14 => later_version(rng, Edition::Current),
+        _ => noise(rng, Edition::Current),
     }
+}
+
+/// Whether the area is long enough for the fields that both editions have.
+pub fn has_fields(area: &[u8]) -> bool {
+    area.len() >= 16
 }
 
 /// The entries as far as the bytes can be followed, without asking whether they are sound.
 pub fn rows(area: &[u8]) -> Vec<Row> {
     let mut rows = Vec::new();
-    if area.len() < 24 {
+    if !has_fields(area) {
         return rows;
     }
     let end = used_size(area).min(area.len() as u128);
@@ -73,12 +78,12 @@ fn row_at(area: &[u8], place: usize) -> Row {
     }
 }
 
-/// The field used_size as it stands; the area holds a header.
+/// The field used_size, or `size`, as it stands; the area has fields.
 pub fn used_size(area: &[u8]) -> u128 {
     word(area, field::USED_SIZE) as u128
 }
 
-/// The field total_size as it stands; the area holds a header.
+/// The field total_size, or `max_size`, as it stands; the area has fields.
 pub fn total_size(area: &[u8]) -> u128 {
     word(area, field::TOTAL_SIZE) as u128
 }
@@ -87,19 +92,30 @@ fn word(area: &[u8], offset: usize) -> u32 {
     u32::from_le_bytes([area[offset], area[offset + 1], area[offset + 2], area[offset + 3]])
 }
 
-/// Puts the checksum right by the other fields as they stand.
-fn restore_checksum(area: &mut [u8]) {
+/// Puts the checksum right by the other fields as they stand; the area holds the edition's header.
+pub fn restore_checksum(edition: Edition, area: &mut [u8]) {
     area[field::CHECKSUM] = 0;
-    if word(area, field::FLAGS) & 1 != 0 {
-        let used = used_size(area).min(area.len() as u128) as usize;
-        area[field::CHECKSUM] = area[..used].iter().fold(0, |sum, byte| sum ^ byte);
-    }
+    let used = used_size(area).min(area.len() as u128) as usize;
+    area[field::CHECKSUM] = match edition {
+        Edition::E09 => sum(&area[..used]),
+        Edition::Current if area[field::FLAGS] & 1 != 0 => xor(&area[..used]),
+        Edition::Current => 0,
+    };
+}
+
+pub fn xor(bytes: &[u8]) -> u8 {
+    bytes.iter().fold(0, |sum, byte| sum ^ byte)
+}
+
+/// The sum modulo 256.
+pub fn sum(bytes: &[u8]) -> u8 {
+    bytes.iter().fold(0, |sum, byte| sum.wrapping_add(*byte))
 }
 
 // Sizes and addresses.
 
 /// A length for the area: mostly small, now and then at the limit.
-fn area_len(rng: &mut Rng) -> usize {
+pub fn area_len(rng: &mut Rng) -> usize {
     let len = match rng.below(200) {
         0 => rng.pick(&[65_520, 65_528, 65_535, 65_536, 65_536]),
         1..=10 => rng.range(256, 2048),
@@ -110,7 +126,7 @@ fn area_len(rng: &mut Rng) -> usize {
 }
 
 /// A base that makes an area of `len` bytes usable: low, high, anywhere, or the highest one.
-fn good_base(rng: &mut Rng, len: usize) -> u64 {
+pub fn good_base(rng: &mut Rng, len: usize) -> u64 {
     let highest = (ADDRESS_END as u64 - len as u64) / 8 * 8;
     match rng.below(8) {
         0 => 0,
@@ -122,29 +138,12 @@ fn good_base(rng: &mut Rng, len: usize) -> u64 {
     }
 }
 
-/// A base that makes the area unusable, or just does not.
-fn bad_base(rng: &mut Rng, len: usize) -> u64 {
-    let len = len as u64;
-    let end = ADDRESS_END as u64;
-    match rng.below(9) {
-        0 => rng.below(end) | rng.range(1, 7),
-        1 => rng.range(1, 7),
-        2 => (end - len) / 8 * 8 + 8,
-        3 => (end - len) | rng.range(0, 7),
-        4 => end - rng.below(len + 16),
-        5 => end.wrapping_add(8 * rng.below(1 << 20)),
-        6 => u64::MAX - rng.below(16),
-        7 => 0u64.wrapping_sub(len / 8 * 8),
-        _ => rng.word() / 8 * 8,
-    }
-}
-
 // Whole lists.
 
 /// A list made by create and a row of the model's own edits.
 fn edited(rng: &mut Rng) -> List {
     let len = area_len(rng);
-    let mut list = List { area: rng.bytes(len), base: good_base(rng, len) };
+    let mut list = List { area: rng.bytes(len), base: good_base(rng, len), edition: Edition::Current };
     model::create(&mut list.area, list.base, !rng.once_in(4));
     for _ in 0..rng.below(12) {
         edit(rng, &mut list);
@@ -186,9 +185,9 @@ fn move_away(rng: &mut Rng, list: &mut List) {
     }
 }
 
-/// A whole list of the given version, laid out byte by byte.
-fn laid_out(rng: &mut Rng, version: u8) -> List {
-    let mut area = laid_out_header(rng, version);
+/// A whole list of the given edition and version, laid out byte by byte.
+pub fn laid_out(rng: &mut Rng, edition: Edition, version: u8) -> List {
+    let mut area = laid_out_header(rng, edition, version);
     let limit = area_len(rng) / 8 * 8;
     lay_out_entries(rng, version, &mut area, limit);
     if limit > 4096 || rng.once_in(4) {
@@ -200,17 +199,17 @@ fn laid_out(rng: &mut Rng, version: u8) -> List {
     area.extend(rng.bytes(len - used));
     put_u32(&mut area, field::USED_SIZE, used as u32);
     put_u32(&mut area, field::TOTAL_SIZE, total as u32);
-    restore_checksum(&mut area);
-    List { base: good_base(rng, len), area }
+    restore_checksum(edition, &mut area);
+    List { base: good_base(rng, len), area, edition }
 }
 
-fn later_version(rng: &mut Rng) -> List {
+pub fn later_version(rng: &mut Rng, edition: Edition) -> List {
     let version = match rng.below(4) {
         0 => 2,
         1 => 255,
         _ => rng.range(2, 255) as u8,
     };
-    laid_out(rng, version)
+    laid_out(rng, edition, version)
 }
 
 /// Free bytes between used_size and total_size, a multiple of 8.
@@ -224,18 +223,30 @@ fn spare(rng: &mut Rng) -> usize {
 }
 
 /// The header and what stands between it and the first entry; the sizes are put in afterwards.
-fn laid_out_header(rng: &mut Rng, version: u8) -> Vec<u8> {
-    let hdr_size = if version == 1 { 24 } else { longer_header(rng, 24) };
+fn laid_out_header(rng: &mut Rng, edition: Edition, version: u8) -> Vec<u8> {
+    let least = edition.hdr_size() as u8;
+    let hdr_size = if version == 1 { least } else { longer_header(rng, least) };
     let mut area = rng.bytes(align8(hdr_size as u128) as usize);
-    put_u32(&mut area, 0, SIGNATURE_WORD);
+    put_u32(&mut area, 0, edition.signature());
     area[field::VERSION] = version;
     area[field::HDR_SIZE] = hdr_size;
-    area[field::ALIGNMENT] = good_exponent(rng) as u8;
-    put_u32(&mut area, field::FLAGS, flags(rng));
-    if rng.once_in(2) {
-        put_u32(&mut area, field::RESERVED, 0);
+    area[field::ALIGNMENT] = alignment(rng) as u8;
+    if edition == Edition::Current {
+        put_u32(&mut area, field::FLAGS, flags(rng));
+        if rng.once_in(2) {
+            put_u32(&mut area, field::RESERVED, 0);
+        }
     }
     area
+}
+
+/// An alignment for a list: the small ones more often, but all of them often enough.
+pub fn alignment(rng: &mut Rng) -> u32 {
+    if rng.once_in(2) {
+        good_exponent(rng)
+    } else {
+        rng.range(3, 12) as u32
+    }
 }
 
 /// The flags word: has_checksum mostly, the other bits often all 0 and often not.
@@ -254,7 +265,7 @@ fn longer_header(rng: &mut Rng, least: u8) -> u8 {
     match rng.below(6) {
         0 | 1 => least,
         2 => least + 8,
-        3 | 4 => rng.range(least as u64, least as u64 + 16) as u8,
+        3 | 4 => rng.range(least as u64, least as u64 + 24) as u8,
         _ => rng.range(least as u64, 255) as u8,
     }
 }
@@ -305,149 +316,14 @@ fn laid_out_tag(rng: &mut Rng) -> u32 {
 }
 
 /// A buffer of noise, in part behind a signature and a version.
-fn noise(rng: &mut Rng) -> List {
+pub fn noise(rng: &mut Rng, edition: Edition) -> List {
     let len = area_len(rng);
     let mut area = rng.bytes(len);
-    if len >= 24 && rng.once_in(2) {
-        put_u32(&mut area, 0, SIGNATURE_WORD);
+    if has_fields(&area) && rng.once_in(2) {
+        put_u32(&mut area, 0, edition.signature());
         area[field::VERSION] = rng.below(3) as u8;
     }
-    List { area, base: good_base(rng, len) }
-}
-
-// Damage.
-
-/// One byte or field changed, with the checksum mostly put right afterwards.
-fn damage(rng: &mut Rng, area: &mut [u8]) {
-    if area.len() < 24 {
-        return;
-    }
-    match rng.below(8) {
-        0 => change_byte(rng, area),
-        1..=3 => change_header(rng, area),
-        4 => change_end(rng, area),
-        _ => change_entry(rng, area),
-    }
-    if !rng.once_in(4) {
-        restore_checksum(area);
-    }
-}
-
-fn change_byte(rng: &mut Rng, area: &mut [u8]) {
-    let limit = used_size(area).clamp(24, area.len() as u128);
-    let offset = rng.below(limit as u64) as usize;
-    area[offset] ^= rng.range(1, 255) as u8;
-}
-
-fn change_header(rng: &mut Rng, area: &mut [u8]) {
-    match rng.below(9) {
-        0 => area[rng.below(4) as usize] ^= rng.range(1, 255) as u8,
-        1 => area[field::CHECKSUM] ^= rng.range(1, 255) as u8,
-        2 => area[field::VERSION] = rng.pick(&[0, 0, 1, 2, 255]),
-        3 => area[field::HDR_SIZE] = rng.pick(&[0, 8, 16, 23, 24, 25, 31, 32, 40, 255]),
-        4 => area[field::ALIGNMENT] = rng.pick(&[0, 2, 3, 12, 13, 19, 35, 67, 131, 255]),
-        5 => change_used_size(rng, area),
-        6 => change_total_size(rng, area),
-        7 => put_u32(area, field::FLAGS, rng.word() as u32),
-        _ => put_u32(area, field::RESERVED, rng.word() as u32),
-    }
-}
-
-/// used_size no multiple of 8, under the header, over total_size, or huge.
-fn change_used_size(rng: &mut Rng, area: &mut [u8]) {
-    let (used, total) = (used_size(area) as u32, total_size(area) as u32);
-    let step = rng.pick(&[1, 4, 7, 8]);
-    let value = match rng.below(6) {
-        0 => rng.pick(&[0, 8, 16, 23, 24, 25]),
-        1 => used.wrapping_add(step),
-        2 => used.wrapping_sub(step),
-        3 => total,
-        4 => total.wrapping_add(step),
-        _ => rng.pick(&[0x8000_0000, 0xffff_fff8, 0xffff_ffff]),
-    };
-    put_u32(area, field::USED_SIZE, value);
-}
-
-/// total_size no multiple of 8, under used_size, over the length, or huge.
-fn change_total_size(rng: &mut Rng, area: &mut [u8]) {
-    let (used, total) = (used_size(area) as u32, total_size(area) as u32);
-    let len = area.len() as u32;
-    let step = rng.pick(&[1, 4, 7, 8]);
-    let value = match rng.below(7) {
-        0 => used,
-        1 => used.wrapping_sub(8),
-        2 => total.wrapping_add(step),
-        3 => total.wrapping_sub(step),
-        4 => len / 8 * 8,
-        5 => len / 8 * 8 + 8,
-        _ => rng.pick(&[0, 0x8000_0000, 0xffff_fff8, 0xffff_ffff]),
-    };
-    put_u32(area, field::TOTAL_SIZE, value);
-}
-
-/// used_size moved 8 or 16 before or behind the end of the last entry; total_size follows as far
-/// as the area goes.
-fn change_end(rng: &mut Rng, area: &mut [u8]) {
-    let step = rng.pick(&[8, 16]);
-    let used = used_size(area) as u32;
-    let moved = if rng.once_in(2) { used.wrapping_add(step) } else { used.wrapping_sub(step) };
-    put_u32(area, field::USED_SIZE, moved);
-    if total_size(area) < moved as u128 && moved as usize <= area.len() {
-        put_u32(area, field::TOTAL_SIZE, moved);
-    }
-}
-
-fn change_entry(rng: &mut Rng, area: &mut [u8]) {
-    let rows = rows(area);
-    if rows.is_empty() {
-        return;
-    }
-    let row = &rows[rng.below(rows.len() as u64) as usize];
-    match rng.below(5) {
-        0 => area[row.place..row.place + 3].fill(0),
-        1 => area[row.place + 3] = rng.pick(&[0, 7, 8, 9, 16, 24, 255]),
-        _ => {
-            let value = bad_data_size(rng, area, row);
-            put_u32(area, row.place + 4, value);
-        }
-    }
-}
-
-/// A data_size that is huge, or wraps in 32 bits to another place of the list, or ends the entry
-/// at used_size, or a little before or behind it, or is a little off.
-fn bad_data_size(rng: &mut Rng, area: &[u8], row: &Row) -> u32 {
-    let start = row.place as u32 + row.hdr_size as u32;
-    let used = used_size(area) as u32;
-    let step = rng.pick(&[1, 7, 8]);
-    match rng.below(8) {
-        0 => rng.pick(&[0xffff_ffff, 0xffff_fff9, 0xffff_fff8, 0xffff_fff7, 0xffff_fff0]),
-        1 => rng.pick(&[0x7fff_ffff, 0x8000_0000, 0x1_0000, 0xffff]),
-        2 => (8 * rng.below(1 + area.len() as u64 / 8) as u32).wrapping_sub(start),
-        3 => used.wrapping_sub(start),
-        4 => used.wrapping_sub(start).wrapping_add(step),
-        5 => used.wrapping_sub(start).wrapping_sub(step),
-        6 => row.data_size.wrapping_add(step),
-        _ => row.data_size.wrapping_sub(step),
-    }
-}
-
-/// The area cut or lengthened to a length at which something changes.
-fn resize(rng: &mut Rng, area: &mut Vec<u8>) {
-    let len = match rng.below(40) {
-        0 => rng.pick(&[65_535, 65_536, 65_537]),
-        1..=19 => rng.pick(&[0, 1, 7, 8, 9, 23, 24, 25, 31, 32, 33]),
-        20..=29 if area.len() >= 24 => nearby(rng, total_size(area)),
-        _ => rng.below(area.len() as u64 + 1) as usize,
-    };
-    let longer = rng.bytes(len.saturating_sub(area.len()));
-    area.truncate(len);
-    area.extend(longer);
-}
-
-/// A length at a total_size or close to it; the field may say anything.
-fn nearby(rng: &mut Rng, total: u128) -> usize {
-    let total = total.min(4096) as usize;
-    (total + rng.pick(&[0, 7, 8, 9])).saturating_sub(8)
+    List { area, base: good_base(rng, len), edition }
 }
 
 #[cfg(test)]

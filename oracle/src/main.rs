@@ -1,10 +1,14 @@
-//! Compares libtransfer_list.a with the model of document 01 on many lists.
+//! Compares libtransfer_list.a with the model of document 01 and of document 02, request 1, on many
+//! lists.
 //!
 //! `oracle [LISTS [SEED]]`; the list after that of seed S is the one of seed S + 1.
 
+mod calls09;
 mod compare;
+mod edges09;
 mod edits;
 mod huge;
+mod huge09;
 mod lent;
 mod library;
 mod relocations;
@@ -52,7 +56,9 @@ fn run(lists: u64, seed: u64) -> Result<(), String> {
     for index in 0..lists {
         one_list(&mut bench, seed.wrapping_add(index)).map_err(|report| format!("list {index}: {report}"))?;
     }
+    bench.edges09()?;
     bench.huge_lengths()?;
+    bench.huge_lengths09()?;
     println!("{}", bench.tally.table());
     let unseen = bench.tally.unseen();
     if !unseen.is_empty() {

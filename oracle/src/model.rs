@@ -1,4 +1,5 @@
-//! The seven jobs of document 01, each sentence written down plainly.
+//! The seven jobs of document 01, each sentence written down plainly. The checks 1 to 8, check and
+//! find serve lists of edition 0.9 too (document 02, request 1); `model09` has what is theirs alone.
 //!
 //! "All sums here are whole-number sums; none wraps": every sum is made in u128, where the largest
 //! address and the largest length together stay far below the limit.
@@ -84,12 +85,37 @@ pub mod field {
     pub const RESERVED: usize = 20;
 }
 
-pub const SIGNATURE_WORD: u32 = 0x4a0f_b10b;
 pub const ADDRESS_END: u128 = 1 << 48;
 pub const LONGEST_AREA: usize = 65_536;
 
+/// The edition that a list is laid out by. The first sixteen bytes hold the same fields in both;
+/// 0.9 calls used_size `size` and total_size `max_size`, and has no more than these.
+#[derive(Clone, Copy, Debug, PartialEq, Eq)]
+pub enum Edition {
+    /// Source 001, which document 01 builds.
+    Current,
+    /// Source 000, edition 0.9.
+    E09,
+}
+
+impl Edition {
+    pub fn signature(self) -> u32 {
+        match self {
+            Edition::Current => 0x4a0f_b10b,
+            Edition::E09 => 0x006e_d0ff,
+        }
+    }
+
+    /// The bytes of a header of version 1: "with 16 for 24".
+    pub fn hdr_size(self) -> usize {
+        match self {
+            Edition::Current => 24,
+            Edition::E09 => 16,
+        }
+    }
+}
+
 // "The header's own numbers: 24 bytes, version 1, alignment 3 when new, smallest entry header 8."
-const TL_HDR_SIZE: u32 = 24;
 const TL_VERSION: u8 = 1;
 const NEW_ALIGNMENT: u8 = 3;
 const TE_HDR_SIZE: u8 = 8;
@@ -119,7 +145,12 @@ fn xor(bytes: &[u8]) -> u8 {
     bytes.iter().fold(0, |sum, byte| sum ^ byte)
 }
 
-fn refuse_if(refused: bool, number: u32) -> Result<(), u32> {
+/// "The sum modulo 256."
+fn sum(bytes: &[u8]) -> u8 {
+    bytes.iter().fold(0, |sum, byte| sum.wrapping_add(*byte))
+}
+
+pub(crate) fn refuse_if(refused: bool, number: u32) -> Result<(), u32> {
     if refused {
         Err(number)
     } else {
@@ -133,26 +164,27 @@ fn usable(len: usize, base: u64) -> bool {
     base.is_multiple_of(8) && within_limits(len, base)
 }
 
-/// The part of the rule above that a relocation's target must keep too.
-fn within_limits(len: usize, base: u64) -> bool {
+/// The part of the rule above that the target of a relocation or of a conversion must keep too.
+pub(crate) fn within_limits(len: usize, base: u64) -> bool {
     base as u128 + len as u128 <= ADDRESS_END && len <= LONGEST_AREA
 }
 
-/// The fields of the list's header.
-struct Header {
+/// The fields of the list's header that both editions have.
+pub(crate) struct Header {
+    edition: Edition,
     signature: u32,
     checksum: u8,
     version: u8,
     hdr_size: u128,
-    alignment: u8,
-    used_size: u128,
+    pub(crate) alignment: u8,
+    pub(crate) used_size: u128,
     total_size: u128,
-    has_checksum: bool,
 }
 
 impl Header {
-    fn read(area: &[u8]) -> Header {
+    fn read(area: &[u8], edition: Edition) -> Header {
         Header {
+            edition,
             signature: read_u32(area, 0),
             checksum: area[field::CHECKSUM],
             version: area[field::VERSION],
@@ -160,7 +192,6 @@ impl Header {
             alignment: area[field::ALIGNMENT],
             used_size: read_u32(area, field::USED_SIZE) as u128,
             total_size: read_u32(area, field::TOTAL_SIZE) as u128,
-            has_checksum: read_u32(area, field::FLAGS) & HAS_CHECKSUM != 0,
         }
     }
 
@@ -171,9 +202,10 @@ impl Header {
 
     /// The row SIZES, read the other way round.
     fn sizes_hold(&self, len: usize) -> bool {
+        let least = self.edition.hdr_size() as u128;
         let hdr_size_holds = match self.version {
-            1 => self.hdr_size == 24,
-            _ => self.hdr_size >= 24,
+            1 => self.hdr_size == least,
+            _ => self.hdr_size >= least,
         };
         hdr_size_holds
             && (3..=12).contains(&self.alignment)
@@ -185,12 +217,17 @@ impl Header {
     }
 
     /// "With has_checksum the xor of all used bytes, checksum byte included, is 0. Without it the
-    /// checksum byte is 0."
+    /// checksum byte is 0." In edition 0.9 it is "equal to the sum modulo 256 of the other bytes of
+    /// `size`", always.
     fn checksum_holds(&self, area: &[u8]) -> bool {
-        if self.has_checksum {
-            xor(&area[..self.used_size as usize]) == 0
-        } else {
-            self.checksum == 0
+        let used = &area[..self.used_size as usize];
+        match self.edition {
+            Edition::Current if has_checksum(area) => xor(used) == 0,
+            Edition::Current => self.checksum == 0,
+            Edition::E09 => {
+                let (before, behind) = (&used[..field::CHECKSUM], &used[field::CHECKSUM + 1..]);
+                self.checksum == sum(before).wrapping_add(sum(behind))
+            }
         }
     }
 
@@ -258,18 +295,18 @@ impl Entry {
 }
 
 /// A list that has passed checks 1 to 8.
-struct List {
-    header: Header,
+pub(crate) struct List {
+    pub(crate) header: Header,
     entries: Vec<Entry>,
 }
 
 impl List {
     /// "All other calls make 1 to 8 on the given list", in the order of the numbers.
-    fn open(area: &[u8], base: u64, edits: bool) -> Result<List, u32> {
+    fn open(edition: Edition, area: &[u8], base: u64, edits: bool) -> Result<List, u32> {
         refuse_if(!usable(area.len(), base), AREA)?;
-        refuse_if(area.len() < 24, SHORT)?;
-        let header = Header::read(area);
-        refuse_if(header.signature != SIGNATURE_WORD, SIGNATURE)?;
+        refuse_if(area.len() < edition.hdr_size(), SHORT)?;
+        let header = Header::read(area, edition);
+        refuse_if(header.signature != edition.signature(), SIGNATURE)?;
         refuse_if(header.version == 0, VERSION)?;
         refuse_if(edits && header.version > 1, READONLY)?;
         refuse_if(!header.sizes_hold(area.len()), SIZES)?;
@@ -278,13 +315,13 @@ impl List {
         Ok(List { header, entries })
     }
 
-    fn open_to_read(area: &[u8], base: u64) -> Result<List, u32> {
-        List::open(area, base, false)
+    fn open_to_read(edition: Edition, area: &[u8], base: u64) -> Result<List, u32> {
+        List::open(edition, area, base, false)
     }
 
-    /// READONLY is for "add, add aligned, void or relocate".
-    fn open_to_edit(area: &[u8], base: u64) -> Result<List, u32> {
-        List::open(area, base, true)
+    /// READONLY is for "add, add aligned, void or relocate", and for a conversion.
+    pub(crate) fn open_to_edit(edition: Edition, area: &[u8], base: u64) -> Result<List, u32> {
+        List::open(edition, area, base, true)
     }
 
     fn count(&self, live: bool) -> u32 {
@@ -358,18 +395,22 @@ fn put_zero_void(area: &mut [u8], place: u128, data_size: u128) {
     put_entry_header(area, place, VOID_TAG, data_size);
 }
 
+fn has_checksum(list: &[u8]) -> bool {
+    read_u32(list, field::FLAGS) & HAS_CHECKSUM != 0
+}
+
 /// "After every edit the checksum byte is the one that the rule above gives for the whole result."
-fn put_checksum(list: &mut [u8]) {
+pub(crate) fn put_checksum(list: &mut [u8]) {
     list[field::CHECKSUM] = 0;
-    let header = Header::read(list);
-    if header.has_checksum {
-        list[field::CHECKSUM] = xor(&list[..header.used_size as usize]);
+    if has_checksum(list) {
+        let used = read_u32(list, field::USED_SIZE) as usize;
+        list[field::CHECKSUM] = xor(&list[..used]);
     }
 }
 
 /// "An accepted call answers number 0. A refusal answers its number with every other number in the
 /// answer 0."
-fn done(result: Result<u128, u32>) -> Done {
+pub(crate) fn done(result: Result<u128, u32>) -> Done {
     match result {
         Ok(value) => Done { number: 0, value: value as u32 },
         Err(number) => Done { number, value: 0 },
@@ -378,7 +419,11 @@ fn done(result: Result<u128, u32>) -> Done {
 
 /// "Check answers version, used, total, alignment, and the numbers of live and void entries."
 pub fn check(area: &[u8], base: u64) -> Checked {
-    match List::open_to_read(area, base) {
+    check_by(Edition::Current, area, base)
+}
+
+pub(crate) fn check_by(edition: Edition, area: &[u8], base: u64) -> Checked {
+    match List::open_to_read(edition, area, base) {
         Err(number) => Checked { number, ..Checked::default() },
         Ok(list) => Checked {
             number: 0,
@@ -394,14 +439,18 @@ pub fn check(area: &[u8], base: u64) -> Checked {
 
 /// "Find takes a tag and an occurrence n. It answers the data's offset and size."
 pub fn find(area: &[u8], base: u64, tag: u32, n: u64) -> Found {
-    match try_find(area, base, tag, n) {
+    find_by(Edition::Current, area, base, tag, n)
+}
+
+pub(crate) fn find_by(edition: Edition, area: &[u8], base: u64, tag: u32, n: u64) -> Found {
+    match try_find(edition, area, base, tag, n) {
         Ok((offset, size)) => Found { number: 0, offset: offset as u32, size: size as u32 },
         Err(number) => Found { number, ..Found::default() },
     }
 }
 
-fn try_find(area: &[u8], base: u64, tag: u32, n: u64) -> Result<(u128, u128), u32> {
-    let list = List::open_to_read(area, base)?;
+fn try_find(edition: Edition, area: &[u8], base: u64, tag: u32, n: u64) -> Result<(u128, u128), u32> {
+    let list = List::open_to_read(edition, area, base)?;
     check_tag(tag)?;
     let entry = list.occurrence(tag, n)?;
     Ok((entry.data_offset(), entry.data_size))
@@ -416,17 +465,23 @@ pub fn create(area: &mut [u8], base: u64, has_checksum: bool) -> Done {
 fn try_create(area: &mut [u8], base: u64, has_checksum: bool) -> Result<u128, u32> {
     refuse_if(!usable(area.len(), base), AREA)?;
     refuse_if(area.len() <= 24, SHORT)?;
-    let total = round_down8(area.len() as u128);
     area.fill(0);
-    put_u32(area, 0, SIGNATURE_WORD);
+    put_new_header(area, has_checksum);
+    put_checksum(area);
+    Ok(round_down8(area.len() as u128))
+}
+
+/// Writes create's header, but for the checksum, into an area of zeros that holds it.
+pub(crate) fn put_new_header(area: &mut [u8], has_checksum: bool) {
+    let hdr_size = Edition::Current.hdr_size();
+    let total = round_down8(area.len() as u128);
+    put_u32(area, 0, Edition::Current.signature());
     area[field::VERSION] = TL_VERSION;
-    area[field::HDR_SIZE] = TL_HDR_SIZE as u8;
+    area[field::HDR_SIZE] = hdr_size as u8;
     area[field::ALIGNMENT] = NEW_ALIGNMENT;
-    put_u32(area, field::USED_SIZE, TL_HDR_SIZE);
+    put_u32(area, field::USED_SIZE, hdr_size as u32);
     put_u32(area, field::TOTAL_SIZE, total as u32);
     put_u32(area, field::FLAGS, if has_checksum { HAS_CHECKSUM } else { 0 });
-    put_checksum(area);
-    Ok(total)
 }
 
 /// "Add takes tag, data of n bytes, and whether voids may be used"; it answers "the new data's
@@ -436,7 +491,7 @@ pub fn add(area: &mut [u8], base: u64, tag: u32, data: &[u8], use_voids: bool) -
 }
 
 fn try_add(area: &mut [u8], base: u64, tag: u32, data: &[u8], use_voids: bool) -> Result<u128, u32> {
-    let list = List::open_to_edit(area, base)?;
+    let list = List::open_to_edit(Edition::Current, area, base)?;
     check_new_tag(tag)?;
     check_shape(tag, data)?;
     let void = if use_voids { list.first_void_for(data.len() as u128) } else { None };
@@ -476,7 +531,7 @@ pub fn add_aligned(area: &mut [u8], base: u64, tag: u32, data: &[u8], exponent: 
 }
 
 fn try_add_aligned(area: &mut [u8], base: u64, tag: u32, data: &[u8], exponent: u32) -> Result<u128, u32> {
-    let header = List::open_to_edit(area, base)?.header;
+    let header = List::open_to_edit(Edition::Current, area, base)?.header;
     check_new_tag(tag)?;
     check_shape(tag, data)?;
     refuse_if(!(3..=12).contains(&exponent), ALIGN)?;
@@ -513,7 +568,7 @@ pub fn void(area: &mut [u8], base: u64, tag: u32, n: u64) -> Done {
 }
 
 fn try_void(area: &mut [u8], base: u64, tag: u32, n: u64) -> Result<u128, u32> {
-    let list = List::open_to_edit(area, base)?;
+    let list = List::open_to_edit(Edition::Current, area, base)?;
     check_tag(tag)?;
     let entry = list.occurrence(tag, n)?;
     put_zero_void(area, entry.place, align8(entry.data_size));
@@ -527,7 +582,7 @@ pub fn relocate(area: &[u8], base: u64, target: &mut [u8], target_base: u64) -> 
 }
 
 fn try_relocate(area: &[u8], base: u64, target: &mut [u8], target_base: u64) -> Result<u128, u32> {
-    let header = List::open_to_edit(area, base)?.header;
+    let header = List::open_to_edit(Edition::Current, area, base)?.header;
     refuse_if(!within_limits(target.len(), target_base), TARGET)?;
     let shift = new_base(base, target_base, header.alignment) - target_base as u128;
     refuse_if(shift + header.used_size > target.len() as u128, ROOM)?;

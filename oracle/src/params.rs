@@ -23,9 +23,9 @@ impl Facts {
     pub fn of(list: &List) -> Facts {
         let area = &list.area;
         let rows = lists::rows(area);
-        let (used, total) = match area.len() {
-            0..=23 => (0, 0),
-            _ => (lists::used_size(area) as i64, lists::total_size(area) as i64),
+        let (used, total) = match lists::has_fields(area) {
+            false => (0, 0),
+            true => (lists::used_size(area) as i64, lists::total_size(area) as i64),
         };
         Facts {
             base: list.base,
@@ -35,6 +35,11 @@ impl Facts {
             live_tags: rows.iter().filter(|row| row.tag_id != 0).map(|row| row.tag_id).collect(),
             void_sizes: rows.iter().filter(|row| row.tag_id == 0).map(|row| row.data_size).collect(),
         }
+    }
+
+    /// What a conversion moves: the list begins 8 before its old base, and has 8 bytes more.
+    pub fn for_conversion(self) -> Facts {
+        Facts { base: self.base.wrapping_sub(8), used: self.used + 8, ..self }
     }
 
     fn count(&self, tag: u32) -> u64 {
@@ -138,7 +143,7 @@ pub fn padding(facts: &Facts, exponent: u32) -> i64 {
     }
 }
 
-/// Length and base address of a relocation's target.
+/// Length and base address of a relocation's target, or a conversion's with the facts for it.
 pub fn target(rng: &mut Rng, facts: &Facts) -> (usize, u64) {
     match rng.below(64) {
         0 => full_target(rng, facts),

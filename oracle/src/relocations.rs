@@ -1,6 +1,6 @@
 //! The comparison of relocate.
 
-use crate::compare::{untouched, Asked, Bench, Buffer};
+use crate::compare::{untouched, Asked, Bench, Buffer, Times};
 use crate::library;
 use oracle::demand::{self, Relocation};
 use oracle::lists::List;
@@ -9,12 +9,15 @@ use oracle::params::{self, Facts};
 use oracle::rng::Rng;
 use oracle::tally::Call;
 
-/// Relocations per list.
-const RELOCATIONS: usize = 4;
-
 impl Bench {
-    pub fn relocations(&mut self, rng: &mut Rng, list: &List, facts: &Facts) -> Result<(), String> {
-        for _ in 0..RELOCATIONS {
+    pub fn relocations(
+        &mut self,
+        rng: &mut Rng,
+        list: &List,
+        facts: &Facts,
+        times: &Times,
+    ) -> Result<(), String> {
+        for _ in 0..times.relocations {
             let (target_len, target_base) = params::target(rng, facts);
             self.relocate(list, &rng.bytes(target_len), target_base)?;
         }

@@ -3,6 +3,7 @@
 use std::fmt::Write;
 
 pub const NUMBERS: usize = 15;
+const CALLS: usize = 10;
 
 #[derive(Clone, Copy, PartialEq, Eq)]
 pub enum Call {
@@ -13,11 +14,24 @@ pub enum Call {
     AddAligned,
     Void,
     Relocate,
+    Check09,
+    Find09,
+    Convert09,
 }
 
 impl Call {
-    pub const ALL: [Call; 7] =
-        [Call::Check, Call::Find, Call::Create, Call::Add, Call::AddAligned, Call::Void, Call::Relocate];
+    pub const ALL: [Call; CALLS] = [
+        Call::Check,
+        Call::Find,
+        Call::Create,
+        Call::Add,
+        Call::AddAligned,
+        Call::Void,
+        Call::Relocate,
+        Call::Check09,
+        Call::Find09,
+        Call::Convert09,
+    ];
 
     /// The call's name in the C interface.
     pub fn name(self) -> &'static str {
@@ -29,25 +43,28 @@ impl Call {
             Call::AddAligned => "tl_add_aligned",
             Call::Void => "tl_void",
             Call::Relocate => "tl_relocate",
+            Call::Check09 => "tl09_check",
+            Call::Find09 => "tl09_find",
+            Call::Convert09 => "tl09_convert",
         }
     }
 
     /// The numbers the call can answer: those of "When a call is turned away" that concern it.
     fn possible(self) -> &'static [usize] {
         match self {
-            Call::Check => &[0, 1, 2, 3, 4, 6, 7, 8],
-            Call::Find => &[0, 1, 2, 3, 4, 6, 7, 8, 9, 13],
+            Call::Check | Call::Check09 => &[0, 1, 2, 3, 4, 6, 7, 8],
+            Call::Find | Call::Find09 => &[0, 1, 2, 3, 4, 6, 7, 8, 9, 13],
             Call::Create => &[0, 1, 2],
             Call::Add => &[0, 1, 2, 3, 4, 5, 6, 7, 8, 9, 10, 14],
             Call::AddAligned => &[0, 1, 2, 3, 4, 5, 6, 7, 8, 9, 10, 11, 14],
             Call::Void => &[0, 1, 2, 3, 4, 5, 6, 7, 8, 9, 13],
-            Call::Relocate => &[0, 1, 2, 3, 4, 5, 6, 7, 8, 12, 14],
+            Call::Relocate | Call::Convert09 => &[0, 1, 2, 3, 4, 5, 6, 7, 8, 12, 14],
         }
     }
 }
 
 #[derive(Default)]
-pub struct Tally([[u64; NUMBERS]; 7]);
+pub struct Tally([[u64; NUMBERS]; CALLS]);
 
 impl Tally {
     pub fn count(&mut self, call: Call, number: u32) {

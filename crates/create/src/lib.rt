@@ -1,4 +1,4 @@
-// Create: a new list without entries.
+// Create: a new list without entries. Its writing of a header serves the conversion too.
 use rules::Done;
 use rules::Header;
 use rules::Refusal;
@@ -12,7 +12,7 @@ ghost use Rattle.rules.specs.Outcome.{answer, bytesAfter};
 ghost use Rattle.rules.specs.Create.{create as createRule};
 
 // The header's bytes, field after field.
-fn write_header(a: &mut [u8], h: Header)
+pub fn write_header(a: &mut [u8], h: Header)
     requires { ⌜ headerSize ≤ length (now a) ⌝ }
     ensures { λ _. ⌜ now (a .exit) ≡ splice (now (a .entry)) 0 (headerBytes h) ⌝ }
 {

@@ -1,23 +1,17 @@
 -- Demand 3, proved of the written rules.
-use mathlib.Core.Path.{_≡_}
+use mathlib.Core.Path.{_≡_, refl}
 use Prim.Native.Nat.{ℕ}
-use native.Mathlib.Omega.{arith}
 use mathlib.Core.List.{List}
-use Rattle.rules.specs.declared.Checked.{Checked}
-use Rattle.rules.specs.declared.Checked.the-variants.{Accepted, Refused}
+use Rattle.rules.specs.Edition.{current}
 use Rattle.rules.specs.Check.{admit}
-use Rattle.rules.specs.Outcome.{Outcome, done, afterAdmission}
+use Rattle.rules.specs.Outcome.{done}
 use Rattle.rules.specs.Edit.{Edit, toAdd, toAddAligned, toVoid, toRelocate, act}
 use Rattle.rules.specs.Demand3.{AcceptedV1, Holds, Demand3}
+use Rattle.demand3.proofs.InPlace.{admitted-done}
 use Rattle.demand3.proofs.Add.{add-holds}
 use Rattle.demand3.proofs.AddAligned.{add-aligned-holds}
 use Rattle.demand3.proofs.Void.{void-holds}
 use Rattle.demand3.proofs.Relocate.{relocate-holds}
-
--- the act of an edit that is done, of a list that is admitted, is done
-acted : (k : Checked) (x : Outcome) (value : ℕ) (bytes : List ℕ) → afterAdmission k x ≡ done value bytes → x ≡ done value bytes
-acted (Accepted f) x value bytes h = h
-acted (Refused r) x value bytes h = absurd (let z : _≡_ {A = ℕ} 0 1 = cc in omega arith)
 
 -- demand 3 of each act
 act-holds : (e : Edit) (a : List ℕ) (base value : ℕ) (bytes : List ℕ) → AcceptedV1 a base → act e a base ≡ done value bytes → Holds e a base value bytes
@@ -42,4 +36,5 @@ act-holds (toRelocate target targetBase) a base value bytes accepted h = relocat
 -- Each word of this is defined in rules' specs/Demand3.antt. The theorem speaks of the written rules alone: that a function does
 -- what they say is that function's own statement.
 pub demand3 : Demand3
-demand3 e a base value bytes accepted h = act-holds e a base value bytes accepted (acted (admit a base) (act e a base) value bytes h)
+demand3 e a base value bytes accepted h =
+    act-holds e a base value bytes accepted (admitted-done current a base (admit a base) (act e a base) value bytes refl h .2)

@@ -1,4 +1,4 @@
--- Demand 3 for an edit in place: what an edit that is done has passed, and the theorem for any list that is changed and sealed.
+-- What an edit that is done has passed, and demand 3 for an edit in place: the theorem for any list that is changed and sealed.
 use mathlib.Core.Path.{_≡_, refl, _∙_, subst}
 use Prim.Native.Nat.{ℕ, _≤_}
 use native.Mathlib.Omega.{arith}
@@ -7,11 +7,16 @@ use mathlib.Core.List.{List, _∷_}
 use lib.ListN.{length}
 use Rattle.rules.specs.declared.Entry.{Entry}
 use Rattle.rules.specs.declared.Refusal.{Refusal}
-use Rattle.rules.specs.Header.{headerSize}
+use Rattle.rules.specs.declared.Checked.{Checked}
+use Rattle.rules.specs.declared.Checked.the-variants.{Accepted, Refused}
+use Rattle.rules.specs.Header.{headerOf, headerSize, currentVersion}
+use Rattle.rules.specs.Edition.{Edition}
 use Rattle.rules.specs.Checksum.{seal}
-use Rattle.rules.specs.Outcome.{Outcome, refused, done}
+use Rattle.rules.specs.Check.{checksOf}
+use Rattle.rules.specs.Outcome.{Outcome, refused, done, afterAdmission}
 use Rattle.rules.specs.Edit.{Edit, inPlace, destination}
 use Rattle.rules.specs.Demand3.{Holds, Live, reading, changed, bytesFrom, headerStretches, stretches}
+use Rattle.laws.proofs.Check.{Sound, sound}
 use Rattle.laws.proofs.Differs.{outside}
 use Rattle.laws.proofs.Change.{Put, put-seal, Changed, Settled, settle}
 
@@ -20,6 +25,13 @@ pub passed : (b : Bool) (r : Refusal) (x : Outcome) (value : ℕ) (bytes : List 
     → (b ≡ false) × (x ≡ done value bytes)
 passed true r x value bytes h = absurd (let z : _≡_ {A = ℕ} 0 1 = cc in omega arith)
 passed false r x value bytes h = (refl, h)
+
+-- an edit or a conversion that is done was admitted: its list is accepted by its edition's rules and of version 1
+pub admitted-done : (ed : Edition) (a : List ℕ) (base : ℕ) (k : Checked) (x : Outcome) (value : ℕ) (bytes : List ℕ)
+    → checksOf ed true a base ≡ k → afterAdmission k x ≡ done value bytes
+    → Sound ed a base × (headerOf a .version ≡ currentVersion) × (x ≡ done value bytes)
+admitted-done ed a base (Accepted f) x value bytes h q = let s = sound ed true a base f h in (s .0, s .1 refl, q)
+admitted-done ed a base (Refused r) x value bytes h q = absurd (let z : _≡_ {A = ℕ} 0 1 = cc in omega arith)
 
 -- an edit that puts the bytes new into a, which gives c, and seals it
 pub in-place-holds : (e : Edit) (a : List ℕ) (base value : ℕ) {c new : List ℕ} {p : ℕ} {es : List Entry} {xs : List Live} (bytes : List ℕ)

@@ -1,5 +1,6 @@
 -- Demand 3 of every edit that is not refused, proved of the written rules. The theorem is Demand3's; the files above it come to it in
--- the order of these lines. Answered says it of a call's answer, and Create says what a new list keeps to.
+-- the order of these lines. Answered says it of a call's answer, Create says what a new list keeps to, and Convert what a
+-- converted one does.
 pub mod InPlace
 pub mod Void
 pub mod AddVoid
@@ -9,3 +10,4 @@ pub mod Relocate
 pub mod Demand3
 pub mod Answered
 pub mod Create
+pub mod Convert

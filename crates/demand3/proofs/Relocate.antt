@@ -1,10 +1,11 @@
 -- Demand 3 for relocate.
-use mathlib.Core.Path.{_≡_, sym, ap, _∙_, subst}
+use mathlib.Core.Path.{_≡_, sym, _∙_, subst}
 use Prim.Native.Nat.{ℕ, _+_, _-_, _%_, _^_, _≤_, _<_}
 use native.Mathlib.Omega.{arith}
-use mathlib.Core.List.{List, [], _∷_, _++_, map-congr-left}
-use lib.ListN.{length, take, drop, getD, replicate, length-append, length-replicate, List·getD-append}
-use lib.Seq.{length-take-le, drop-at, getD-take}
+use native.Mathlib.Nat.{add-zero}
+use mathlib.Core.List.{List, [], _∷_, _++_}
+use lib.ListN.{length, take, getD, replicate, length-append, length-replicate, List·getD-append}
+use lib.Seq.{length-take-le, getD-take}
 use lib.Dec.{ltb}
 use borrow.Author.Tests.{ltb-false}
 use Rattle.wire.specs.Bytes.{field}
@@ -13,20 +14,22 @@ use Rattle.rules.specs.declared.Entry.{Entry}
 use Rattle.rules.specs.declared.Refusal.the-variants.{Target, Room}
 use Rattle.rules.specs.Area.{down8, maxAddress, maxLength}
 use Rattle.rules.specs.Header.{headerOf, checksumAt, totalAt, withTotal}
-use Rattle.rules.specs.Entries.{dataOffset, entriesOf}
+use Rattle.rules.specs.Entries.{entriesOf}
 use Rattle.rules.specs.Checksum.{seal}
 use Rattle.rules.specs.Refusals.{refusesTarget}
 use Rattle.rules.specs.Outcome.{Outcome, done}
-use Rattle.rules.specs.Relocate.{newBase, shift, moved, inTarget, targetBytes, moveTo, relocate}
+use Rattle.rules.specs.Relocate.{newBase, shift, moved, targetBytes, moveTo, relocate}
 use Rattle.rules.specs.Edit.{toRelocate}
 use Rattle.rules.specs.Demand3.{AcceptedV1, Holds, liveIn, reading, bytesFrom}
-use Rattle.laws.proofs.Walk.{neither}
+use Rattle.laws.proofs.Passed.{target-reach}
 use Rattle.laws.proofs.Check.{Usable}
-use Rattle.laws.proofs.Power.{power-positive, power-eights, eights-mod}
-use Rattle.laws.proofs.NewBase.{newBase-least, newBase-mod, shift-mod}
+use Rattle.laws.proofs.Power.{power-positive, power-eights, eights-same}
+use Rattle.laws.proofs.NewBase.{newBase-least, newBase-mod, addresses-later}
+use Rattle.laws.proofs.Row.{later-none}
 use Rattle.laws.proofs.Live.{read-same}
 use Rattle.laws.proofs.Differs.{Outside, outside, number-differs, length-number, seal-differs}
-use Rattle.laws.proofs.Seal.{seal-length, seal-append}
+use Rattle.laws.proofs.Seal.{seal-length}
+use Rattle.laws.proofs.Target.{length-target, sealed-target}
 use Rattle.laws.proofs.Ready.{Ready, ready-of, ready-by, header-size, ready-low, ready-top, usedOf}
 use Rattle.laws.proofs.Change.{Changed, Settled, settle}
 use Rattle.demand3.proofs.InPlace.{passed}
@@ -103,33 +106,27 @@ module _ (a : List ℕ) (base : ℕ) (target : List ℕ) (targetBase by : ℕ) (
   -- the new base is a multiple of 8, as the old one is
   base8 : Ready a base (entriesOf a) → (targetBase + by) % 8 ≡ 0
   base8 r =
-      let m : ℕ = 2 ^ headerOf a .alignment in
-      let m8 : m % 8 ≡ 0 = power-eights (headerOf a .alignment) (r .header .sizes .least) in
-      sym (eights-mod (targetBase + by) m m8) ∙ ap (λ (x : ℕ). x % 8) same ∙ eights-mod base m m8 ∙ r .header .usable .base8
+      eights-same (targetBase + by) base _ (power-eights (headerOf a .alignment) (r .header .sizes .least)) same ∙ r .header .usable .base8
 
   -- the result of the relocation
   moved-holds : Holds (toRelocate target targetBase) a base by (targetBytes a by (length target))
-  unfolding headerOf reading targetBytes inTarget moved
+  unfolding headerOf reading targetBytes moved
   moved-holds =
       let es : List Entry = entriesOf a in
       let r : Ready a base es = ready-of a base accepted in
       let room : ℕ = length target - by in
       let d : List ℕ = carry a room in
-      let z : List ℕ = replicate (length target - by - length (seal d)) 0 in
+      let z : List ℕ = replicate (length target - by - length d) 0 in
       let c : List ℕ = d ++ z in
-      let o : List ℕ = replicate by 0 in
-      let lo : length o ≡ by = length-replicate by 0 in
       let ld : length d ≡ usedOf a = carry-length a base es r room in
       let ls : length (seal d) ≡ usedOf a = seal-length d ∙ ld in
-      let lz : length z ≡ length target - by - length (seal d) = length-replicate (length target - by - length (seal d)) 0 in
+      let lz : length z ≡ length target - by - length d = length-replicate (length target - by - length d) 0 in
       let usable : Usable (targetBase + by) room = record { base8 = base8 r; reach = omega arith; short = omega arith } in
       let k : Changed a c (targetBase + by) es (liveIn a es) = carried a base es r room z (targetBase + by) (omega arith) usable in
       let t : Settled c (targetBase + by) es (seal c) = settle c (targetBase + by) es (k .ready) in
       let used : usedOf c ≡ usedOf a = carry-field a base es r room z 8 4 (omega arith) in
-      let area : drop by (o ++ (seal d ++ z)) ≡ seal c =
-      drop-at o (seal d ++ z) by lo ∙ sym (seal-append d z (omega (arith, ready-low a base es r)) (omega arith)) in
       record {
-        result = rw area
+        result = rw (sealed-target (length target) by d (omega (arith, ready-low a base es r)) (omega arith))
             (record {
               again = t .again;
               checksum = t .checksum;
@@ -139,9 +136,9 @@ module _ (a : List ℕ) (base : ℕ) (target : List ℕ) (targetBase by : ℕ) (
                   let q = outside (bytesFrom checksumAt 1 ∷ bytesFrom totalAt 4 ∷ []) i h in
                   seal-differs c i (q .0, tt) ∙ carry-byte a base es r room z i l (q .1);
               addresses = rw (t .walked)
-                  (map-congr-left {l = es} (λ e x. shift-mod (2 ^ headerOf a .alignment) (targetBase + by) base (dataOffset e) same));
+                  (rw later-none at (addresses-later (2 ^ headerOf a .alignment) base (targetBase + by) 0 es (rw add-zero same)));
             });
-        size = rw (length-append o (seal d ++ z), length-append (seal d) z, lo, lz, ls) (omega arith);
+        size = length-target (length target) by (seal d) (omega arith);
       }
 
 -- Demand 3 for relocate
@@ -156,7 +153,7 @@ relocate-holds a base target targetBase value bytes accepted h =
     let end : Outcome = done by (targetBytes a by len) in
     let k₁ = passed (refusesTarget targetBase len) Target (moveTo a by len) value bytes h in
     let k₂ = passed (ltb len (by + usedOf a)) Room end value bytes (k₁ .1) in
-    let t = neither (ltb maxAddress (targetBase + len)) (ltb maxLength len) (k₁ .0) in
+    let t = target-reach targetBase len (k₁ .0) in
     let d : end ≡ done value bytes = k₂ .1 in
     let v : by ≡ value = cc in
     let b : targetBytes a by len ≡ bytes = cc in
@@ -165,4 +162,4 @@ relocate-holds a base target targetBase value bytes accepted h =
     let same : (targetBase + by) % m ≡ base % m = rw e (newBase-mod m base targetBase (power-positive (headerOf a .alignment))) in
     subst (λ (l : List ℕ). Holds (toRelocate target targetBase) a base value l) b
     (subst (λ (x : ℕ). Holds (toRelocate target targetBase) a base x (targetBytes a by len)) v
-    (moved-holds a base target targetBase by accepted same (ltb-false _ _ (t .0)) (ltb-false _ _ (t .1)) (ltb-false _ _ (k₂ .0))))
+    (moved-holds a base target targetBase by accepted same (t .0) (t .1) (ltb-false _ _ (k₂ .0))))

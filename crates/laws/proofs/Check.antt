@@ -41,10 +41,10 @@ use Rattle.rules.specs.Refusals.{
   refusesChecksum,
   refusesTag,
 }
-use Rattle.rules.specs.Check.{walked, fieldsRefusal, headerRefusal, unless, checksOf, check}
+use Rattle.rules.specs.Check.{walked, fieldsRefusal, headerRefusal, unless, checksOf}
 use Rattle.rules.specs.declared.Refusal.the-variants.{Checksum, Tag}
 use Rattle.rules.specs.declared.Found.the-variants as found
-use Rattle.rules.specs.Find.{foundAt, afterCheck, find}
+use Rattle.rules.specs.Find.{foundAt, afterCheck, findOf}
 use Rattle.laws.proofs.Walk.{header-least, neither, All, Inside, walk-inside, occurrence-inside}
 
 -- ---- tests
@@ -253,24 +253,25 @@ module _ (ed : Edition) (a : List ℕ) (base : ℕ) (s : Sound ed a base) where
   occurs-inside tag n e h = occurrence-inside _ tag n (s .row) e row-inside (ap (occurrence tag n) (sym (entries-row a (s .row) (s .walked))) ∙ h)
 
 -- the data that find answers lies within the area
-pub find-within : (a : List ℕ) (base tag n offset size : ℕ) → find a base tag n ≡ found.At offset size → offset + size ≤ length a
-unfolding find
-find-within a base tag n offset size h = go (check a base) refl h
+pub find-within : (ed : Edition) (a : List ℕ) (base tag n offset size : ℕ) → findOf ed a base tag n ≡ found.At offset size
+    → offset + size ≤ length a
+unfolding findOf
+find-within ed a base tag n offset size h = go (checksOf ed false a base) refl h
   where
-    at-entry : (s : Sound current a base) (o : Option Entry) → occurrence tag n (entriesOf a) ≡ o → foundAt o ≡ found.At offset size → offset + size ≤ length a
+    at-entry : (s : Sound ed a base) (o : Option Entry) → occurrence tag n (entriesOf a) ≡ o → foundAt o ≡ found.At offset size → offset + size ≤ length a
     at-entry s (some e) p k =
-        let i = occurs-inside current a base s tag n e p in
+        let i = occurs-inside ed a base s tag n e p in
         let x : e .at + e .«hdr_size» ≡ offset = cc in
         let y : e .«data_size» ≡ size = cc in
         omega arith
     at-entry s none p k = absurd (let z : _≡_ {A = ℕ} 0 1 = cc in omega arith)
 
-    go : (c : Checked) → check a base ≡ c
+    go : (c : Checked) → checksOf ed false a base ≡ c
         → afterCheck c (cond (refusesTag tag) (found.Refused Tag) (foundAt (occurrence tag n (entriesOf a)))) ≡ found.At offset size
         → offset + size ≤ length a
     go (Accepted f) p k =
         let never : found.Refused Tag ≡ found.At offset size → ⊥ = λ e. (let z : _≡_ {A = ℕ} 0 1 = cc in omega arith) in
-        at-entry (sound current false a base f p .0) (occurrence tag n (entriesOf a)) refl (past (refusesTag tag) _ _ _ never k .1)
+        at-entry (sound ed false a base f p .0) (occurrence tag n (entriesOf a)) refl (past (refusesTag tag) _ _ _ never k .1)
     go (Refused r) p k = absurd (let z : _≡_ {A = ℕ} 0 1 = cc in omega arith)
 
 -- ---- the sizes of an accepted list
@@ -291,9 +292,13 @@ module _ (ed : Edition) (a : List ℕ) (base : ℕ) (s : Sound ed a base) where
   pub used-most : headerOf a .«used_size» ≤ length a
   used-most = omega (arith, s .header .sizes .used, s .header .sizes .total)
 
--- ---- a list that is admitted to an edit, with its header
+-- ---- a list that is admitted to an edit or a conversion, with its header
 
-pub record Admitted (a : List ℕ) (base : ℕ) (h : Header) : Type 0 where
+pub record AdmittedIn (ed : Edition) (a : List ℕ) (base : ℕ) (h : Header) : Type 0 where
   pub header : h ≡ headerOf a
-  pub sound : Sound current a base
+  pub sound : Sound ed a base
   pub version : headerOf a .version ≡ currentVersion
+
+-- a current one
+abbrev pub Admitted : List ℕ → ℕ → Header → Type 0
+Admitted a base h = AdmittedIn current a base h

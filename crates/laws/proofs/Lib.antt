@@ -13,6 +13,8 @@ pub mod NewBase
 pub mod Differs
 pub mod Seal
 pub mod Ready
+pub mod Target
+pub mod Grown
 pub mod Written
 pub mod Change
 pub mod Patch

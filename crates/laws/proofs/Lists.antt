@@ -6,7 +6,16 @@ use native.Mathlib.Nat.{add-assoc}
 use mathlib.Core.Bool.{Bool, true, false}
 use mathlib.Core.List.{List, _++_, append-nil}
 use lib.ListN.{length, take, drop, getD, set, length-append, length-drop, drop-of-length-le}
-use lib.Seq.{length-take-le, take-take, set-append-left, take-set-lt, drop-set-lt, getD-take, getD-drop, ext-getD}
+use lib.Seq.{
+  length-take-le,
+  take-take,
+  set-append-left,
+  take-set-lt,
+  drop-set-lt,
+  getD-take,
+  getD-drop,
+  ext-getD,
+}
 use lib.Dec.{ltb}
 use borrow.Author.Tests.{ltb-true, ltb-false}
 use Rattle.wire.specs.Bytes.{field, leBytes, splice}
@@ -57,11 +66,11 @@ take-splice-used a at new u n h l e = go (ltb u (at + length new)) refl
 -- ---- parts
 
 -- the length of a part that lies in the list
-length-part : (a : List ℕ) (o n : ℕ) → o + n ≤ length a → length (take n (drop o a)) ≡ n
+pub length-part : (a : List ℕ) (o n : ℕ) → o + n ≤ length a → length (take n (drop o a)) ≡ n
 length-part a o n h = let d : length (drop o a) ≡ length a - o = length-drop o a in length-take-le n (drop o a) (omega arith)
 
 -- a byte of a part
-getD-part : (a : List ℕ) (o n i : ℕ) → i < n → getD (take n (drop o a)) i 0 ≡ getD a (o + i) 0
+pub getD-part : (a : List ℕ) (o n i : ℕ) → i < n → getD (take n (drop o a)) i 0 ≡ getD a (o + i) 0
 getD-part a o n i h = getD-take n (drop o a) i 0 h ∙ getD-drop o a i 0
 
 -- a part is the list whose bytes it has

@@ -1,4 +1,5 @@
--- The new base of a relocation: the lowest address at or above the target base that equals the old base modulo m.
+-- The new base of a relocation: the lowest address at or above the target base that equals the old base modulo m. That of a conversion,
+-- by the same laws. Data addresses after either.
 use mathlib.Core.Path.{_≡_, refl, sym, ap, _∙_}
 use Prim.Native.Nat.{ℕ, _+_, _*_, _/_, _%_, _≤_, _<_}
 use native.Mathlib.Omega.{arith}
@@ -16,9 +17,14 @@ use native.Mathlib.Nat.{
   add-mul,
 }
 use mathlib.Core.Bool.{Bool, true, false, cond}
+use mathlib.Core.List.{List, map, map-map, map-congr-left}
 use lib.Dec.{ltb, leb}
 use borrow.Author.Tests.{ltb-true, ltb-false, leb-true, leb-false}
+use Rattle.rules.specs.declared.Entry.{Entry}
+use Rattle.rules.specs.Entries.{dataOffset}
 use Rattle.rules.specs.Relocate.{inBlock, newBase}
+use Rattle.rules.specs.Edition09.{growth, grownBase}
+use Rattle.laws.proofs.Row.{later}
 
 module _ (m base target : ℕ) (positive : 0 < m) where
   -- what holds in both cases holds
@@ -63,5 +69,37 @@ module _ (m base target : ℕ) (positive : 0 < m) where
           absurd (let q : target / m * m + base % m ≡ x = rw s at same in omega arith)
 
 -- equal addresses modulo m stay equal the same number of bytes further on
-pub shift-mod : (m x y k : ℕ) → x % m ≡ y % m → (x + k) % m ≡ (y + k) % m
+shift-mod : (m x y k : ℕ) → x % m ≡ y % m → (x + k) % m ≡ (y + k) % m
 shift-mod m x y k h = add-mod x k m ∙ ap (λ (r : ℕ). (r + k % m) % m) h ∙ sym (add-mod y k m)
+
+-- ---- the new base of a conversion: the lowest address at or above the target base that, eight bytes further on, equals the old base
+
+module _ (m base target : ℕ) (positive : 0 < m) where
+  -- those eight bytes further on
+  grownBase-further : grownBase m base target + growth ≡ newBase m base (target + growth)
+  unfolding grownBase
+  grownBase-further = omega (arith, newBase-least m base (target + growth) positive)
+
+  -- it is not below the target base
+  pub grownBase-least : target ≤ grownBase m base target
+  grownBase-least = omega (arith, grownBase-further, newBase-least m base (target + growth) positive)
+
+  -- eight bytes further on it equals the old base modulo m
+  pub grownBase-mod : (grownBase m base target + growth) % m ≡ base % m
+  grownBase-mod = rw grownBase-further (newBase-mod m base (target + growth) positive)
+
+  -- no lower address at or above the target base does so
+  pub grownBase-lowest : (x : ℕ) → target ≤ x → (x + growth) % m ≡ base % m → grownBase m base target ≤ x
+  grownBase-lowest x h e = omega (arith, grownBase-further, newBase-lowest m base (target + growth) positive (x + growth) (omega arith) e)
+
+-- ---- data addresses
+
+-- entries that stand d bytes further on, in a list whose base with these d bytes equals the old one modulo m, keep theirs modulo m
+pub addresses-later : (m base newBase d : ℕ) (es : List Entry) → (newBase + d) % m ≡ base % m
+    → map (λ (e : Entry). (newBase + dataOffset e) % m) (map (later d) es) ≡ map (λ (e : Entry). (base + dataOffset e) % m) es
+addresses-later m base newBase d es h =
+    rw map-map
+    (map-congr-left {l = es}
+    (λ e x.
+    let o : newBase + dataOffset (later d e) ≡ newBase + d + dataOffset e = omega arith in
+    rw o (shift-mod m (newBase + d) base (dataOffset e) h)))

@@ -1,5 +1,5 @@
 -- Powers of two from 8 on, as moduli.
-use mathlib.Core.Path.{_≡_, _∙_}
+use mathlib.Core.Path.{_≡_, sym, ap, _∙_}
 use Prim.Native.Nat.{ℕ, zero, suc, _*_, _%_, _^_, _≤_, _<_}
 use native.Mathlib.Omega.{arith}
 use lib.Pow.{shl-exact}
@@ -21,6 +21,10 @@ power-eights (suc (suc (suc k))) h =
 -- a remainder modulo a multiple of 8, modulo 8
 pub eights-mod : (x m : ℕ) → m % 8 ≡ 0 → x % m % 8 ≡ x % 8
 eights-mod x m h = mod-mod-of-dvd 8 x (dvd-of-mod-eq-zero 8 h)
+
+-- of two addresses that are equal modulo a multiple of 8, both are multiples of 8 or neither
+pub eights-same : (x y m : ℕ) → m % 8 ≡ 0 → x % m ≡ y % m → x % 8 ≡ y % 8
+eights-same x y m h e = sym (eights-mod x m h) ∙ ap (λ (r : ℕ). r % 8) e ∙ eights-mod y m h
 
 -- 1 shifted left is a power of two
 pub shifted : (k : ℕ) → k < 32 → 1 * 2 ^ k % 2 ^ 64 ≡ 2 ^ k

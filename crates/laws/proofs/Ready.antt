@@ -1,5 +1,5 @@
 -- A list that is ready to be sealed: everything that an accepted version 1 list keeps to, but for the checksum.
-use mathlib.Core.Path.{_≡_, sym, ap, _∙_, subst}
+use mathlib.Core.Path.{_≡_, refl, sym, ap, _∙_, subst}
 use Prim.Native.Nat.{ℕ, _%_, _≤_}
 use native.Mathlib.Omega.{arith}
 use mathlib.Core.Bool.{true, false}
@@ -10,8 +10,8 @@ use Rattle.rules.specs.declared.Entry.{Entry}
 use Rattle.rules.specs.declared.Facts.{Facts}
 use Rattle.rules.specs.declared.Checked.the-variants.{Accepted}
 use Rattle.rules.specs.Header.{headerOf, headerSize, signature, currentVersion, leastAlignment}
-use Rattle.rules.specs.Edition.{current}
-use Rattle.rules.specs.Entries.{entries, walkFrom, walk, entriesOf}
+use Rattle.rules.specs.Edition.{Edition, current}
+use Rattle.rules.specs.Entries.{entries, walkFrom, firstEntry, walk, entriesOf}
 use Rattle.rules.specs.Checksum.{checksumHolds}
 use Rattle.rules.specs.Demand3.{AcceptedV1}
 use Rattle.laws.proofs.Check.{Usable, SoundHeader, Sound, sound, accepts, factsOf, entries-row}
@@ -52,15 +52,20 @@ module _ (a : List ℕ) (base : ℕ) where
   accepted s v =
       record { facts = factsOf (headerOf a) (s .row); accepted = accepts current false a base s (λ e. v); version = v }
 
-  -- and it is ready
-  pub ready-sound : Sound current a base → headerOf a .version ≡ currentVersion → Ready a base (entriesOf a)
+  -- its entries stand in a row behind its edition's header
+  pub row-sound : (ed : Edition) → ed .headerSize % 8 ≡ 0 → Sound ed a base → headerOf a .version ≡ currentVersion
+      → Row a (ed .headerSize) (usedOf a) (entriesOf a)
   unfolding walk
-  ready-sound s v =
-      let u : ℕ = headerOf a .«used_size» in
-      let z : headerOf a .«hdr_size» ≡ headerSize = exact _ headerSize _ v (s .header .sizes .header) in
-      let w : walkFrom 1 a u headerSize ≡ entries (s .row) = rw (v, z) at (s .walked) in
-      let r : Row a headerSize u (s .row) = row-of-walk a u headerSize (s .row) w in
-      record { header = s .header; version = v; row = subst (Row a headerSize u) (sym (entries-row a (s .row) (s .walked))) r }
+  row-sound ed eights s v =
+      let own : ℕ = ed .headerSize in
+      let z : headerOf a .«hdr_size» ≡ own = exact _ own _ v (s .header .sizes .header) in
+      let first : firstEntry (headerOf a) ≡ own = rw z (omega arith) in
+      let w : walkFrom 1 a (usedOf a) own ≡ entries (s .row) = rw (v, first) at (s .walked) in
+      subst (Row a own (usedOf a)) (sym (entries-row a (s .row) (s .walked))) (row-of-walk a (usedOf a) own (s .row) w)
+
+  -- and a current one is ready
+  pub ready-sound : Sound current a base → headerOf a .version ≡ currentVersion → Ready a base (entriesOf a)
+  ready-sound s v = record { header = s .header; version = v; row = row-sound current refl s v }
 
   -- an accepted version 1 list is ready
   pub ready-of : AcceptedV1 a base → Ready a base (entriesOf a)

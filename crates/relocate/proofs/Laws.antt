@@ -1,46 +1,42 @@
--- Laws of a relocation: how far the new base is, what a target that is not refused keeps to, and the list's bytes in the target.
+-- Laws of a relocation: its place in the target, and the list's bytes there.
 use mathlib.Core.Path.{_≡_, ap, _∙_}
 use Prim.Native.Nat.{ℕ, _+_, _-_, _^_, _≤_, _<_}
 use native.Mathlib.Omega.{arith}
-use native.Mathlib.Nat.{zero-add, suc-add, add-assoc}
-use mathlib.Core.Bool.{false}
+use native.Mathlib.Nat.{zero-add, suc-add, add-assoc, add-zero}
 use mathlib.Core.List.{List, [], _∷_, _++_, append-assoc}
 use lib.ListN.{length, take, set, replicate, length-replicate, length-set}
 use lib.Seq.{length-take-le, take-append-le, drop-append-le, take-append-add, drop-append-add, set-append-left}
-use lib.Pow.{pow-pos, pow-mono}
 use lib.Dec.{ltb}
-use borrow.Author.Tests.{ltb-false}
 use Rattle.wire.specs.Bytes.{leBytes, splice}
 use Rattle.wire.proofs.Range.{Bytes}
 use Rattle.wire.proofs.Splice.{length-splice}
 use Rattle.wire.proofs.Field.{length-leBytes}
 use Rattle.rules.specs.declared.Header.{Header}
-use Rattle.rules.specs.Area.{down8, maxAddress, maxLength, maxAlignment}
+use Rattle.rules.specs.Area.{down8}
 use Rattle.rules.specs.Header.{headerOf}
 use Rattle.rules.specs.Edition.{current}
 use Rattle.rules.specs.Checksum.{seal}
 use Rattle.rules.specs.Refusals.{refusesTarget}
-use Rattle.rules.specs.Relocate.{newBase, moved, inTarget, targetBytes}
-use Rattle.laws.proofs.Walk.{neither}
+use Rattle.rules.specs.Relocate.{newBase, shift, moved, inTarget, targetBytes, moveTo, relocate}
 use Rattle.laws.proofs.Check.{Sound, used-least, used-most}
 use Rattle.laws.proofs.Lists.{set-splice}
 use Rattle.laws.proofs.Moved.{moved-patched}
-use Rattle.laws.proofs.NewBase.{newBase-near}
 use Rattle.plan.specs.Plan.{totalPatch}
+use Rattle.destination.specs.Place.{placed}
+use Rattle.destination.proofs.Laws.{outcomeAt, outcome-placed}
 
--- ---- the new base and the target
+-- ---- the place
 
--- the shift is below the largest alignment
-pub shift-near : (k base target : ℕ) → k ≤ maxAlignment → newBase (2 ^ k) base target - target < 2 ^ maxAlignment
-shift-near k base target h =
-    let p : 2 ^ k ≤ 2 ^ maxAlignment = pow-mono h in
-    omega (arith, newBase-near (2 ^ k) base target (pow-pos k))
-
--- what a target that is not refused keeps to
-pub target-reach : (base len : ℕ) → refusesTarget base len ≡ false → (base + len ≤ maxAddress) × (len ≤ maxLength)
-target-reach base len h =
-    let p = neither (ltb maxAddress (base + len)) (ltb maxLength len) h in
-    (ltb-false _ _ (p .0), ltb-false _ _ (p .1))
+-- a relocation of an admitted list comes to what the place of its used bytes does
+pub relocate-placed : (a : List ℕ) (base : ℕ) (target : List ℕ) (targetBase : ℕ) (h : Header) → h ≡ headerOf a → let len = length target in
+    relocate a base target targetBase
+    ≡ outcomeAt (λ (by : ℕ). targetBytes a by len) (placed (2 ^ h .alignment) base 0 targetBase len (h .«used_size»))
+unfolding relocate moveTo shift
+relocate-placed a base target targetBase h e =
+    let len : ℕ = length target in
+    let by : ℕ = newBase (2 ^ headerOf a .alignment) base targetBase - targetBase in
+    rw (e, add-zero)
+    (outcome-placed (refusesTarget targetBase len) (ltb len (by + headerOf a .«used_size»)) by (λ (by : ℕ). targetBytes a by len))
 
 -- ---- lists
 

@@ -1,7 +1,7 @@
 // Relocate: the used bytes of a list, into another area.
+use destination::Place;
 use rules::Done;
 use rules::Header;
-use rules::Refusal;
 use walk::check;
 use walk::check::Surveyed;
 use walk::wanted::Wanted;
@@ -34,14 +34,11 @@ pub fn relocate(area: &[u8], base: u64, target: &mut [u8], target_base: u64) -> 
     let Surveyed::Accepted(_, h, _) = surveyed else {
         return Done::Refused(surveyed.refusal());
     };
-    let len = target.len();
-    if destination::refuses_target(target_base, len) {
-        return Done::Refused(Refusal::Target);
-    }
-    let shift = (destination::new_base(h.alignment, base, target_base) - target_base) as usize;
-    if len < shift + h.used_size as usize {
-        return Done::Refused(Refusal::Room);
-    }
+    let needed = h.used_size as usize;
+    let place = destination::find_place(h.alignment, base, target_base, target.len(), needed, 0);
+    let Place::At(shift) = place else {
+        return Done::Refused(place.refusal());
+    };
     write_target(area, base, h, target, shift);
     Done::Value(shift as u32)
 }

@@ -38,7 +38,7 @@ walked h (entries es) =
     })
 walked h (broken at) = Refused (Entry at)
 
--- 3 to 6, by the header's fields and L; 5 only where it applies: editing says whether the call is an edit
+-- 3 to 6, by the header's fields and L; 5 only where it applies: editing says whether the call is one of those that 5 names
 unfoldable pub fieldsRefusal : Edition → Bool → ℕ → Header → Option Refusal
 fieldsRefusal ed editing len h =
     cond (refusesSignature ed h) (some Signature)
@@ -66,7 +66,7 @@ checksOf ed editing a base =
 abbrev pub check : List ℕ → ℕ → Checked
 check a base = checksOf current false a base
 
--- the admission of a list to an edit
+-- the admission of a current list to an edit
 abbrev pub admit : List ℕ → ℕ → Checked
 admit a base = checksOf current true a base
 

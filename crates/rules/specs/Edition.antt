@@ -1,4 +1,5 @@
--- An edition of the specification: the three things in which the check of its lists differs. Source 001 is the current one.
+-- An edition of the specification: the three things in which the check of its lists differs. Source 001 is the current one; edition
+-- 0.9 is in Edition09. The walk, the check and find are written once for both, over the edition or the header's own size.
 use Prim.Native.Nat.{ℕ}
 use mathlib.Core.Bool.{Bool}
 use mathlib.Core.List.{List}

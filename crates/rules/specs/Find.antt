@@ -1,6 +1,6 @@
 -- Document 01, "Find", in both forms.
 use Prim.Native.Nat.{ℕ}
-use mathlib.Core.Bool.{cond}
+use mathlib.Core.Bool.{false, cond}
 use mathlib.Core.List.{List, []}
 use mathlib.Core.Option.{Option, none, some}
 use lib.ListN.{take, drop}
@@ -11,9 +11,10 @@ use Rattle.rules.specs.declared.Refusal.the-variants.{Tag, None}
 use Rattle.rules.specs.declared.Found.{Found}
 use Rattle.rules.specs.declared.Found.the-variants as found
 use Rattle.rules.specs.declared.FindAnswer.{FindAnswer}
+use Rattle.rules.specs.Edition.{Edition, current}
 use Rattle.rules.specs.Entries.{dataOffset, entriesOf, occurrence}
 use Rattle.rules.specs.Refusals.{numberOf, refusesTag}
-use Rattle.rules.specs.Check.{check}
+use Rattle.rules.specs.Check.{checksOf}
 
 -- "It answers the data's offset and size"; 13: no such occurrence of the tag
 abbrev pub foundAt : Option Entry → Found
@@ -25,18 +26,25 @@ abbrev pub afterCheck : Checked → Found → Found
 afterCheck (Accepted f) x = x
 afterCheck (Refused r) x = found.Refused r
 
--- occurrence n of a tag, after checks 1 to 8 and 9
-unfoldable pub find : List ℕ → ℕ → ℕ → ℕ → Found
-find a base tag n =
-    afterCheck (check a base) (cond (refusesTag tag) (found.Refused Tag) (foundAt (occurrence tag n (entriesOf a))))
+-- occurrence n of a tag, after checks 1 to 8 and 9, in a list of an edition
+unfoldable pub findOf : Edition → List ℕ → ℕ → ℕ → ℕ → Found
+findOf ed a base tag n =
+    afterCheck (checksOf ed false a base) (cond (refusesTag tag) (found.Refused Tag) (foundAt (occurrence tag n (entriesOf a))))
+
+-- the find
+abbrev pub find : List ℕ → ℕ → ℕ → ℕ → Found
+find a base tag n = findOf current a base tag n
 
 -- the second form: the data itself; "when refused, or for an entry without data, it hands back the empty part"
 abbrev pub partAt : List ℕ → Found → List ℕ
 partAt a (found.At offset size) = take size (drop offset a)
 partAt a (found.Refused r) = []
 
-unfoldable pub findData : List ℕ → ℕ → ℕ → ℕ → List ℕ
-findData a base tag n = partAt a (find a base tag n)
+unfoldable pub findDataOf : Edition → List ℕ → ℕ → ℕ → ℕ → List ℕ
+findDataOf ed a base tag n = partAt a (findOf ed a base tag n)
+
+abbrev pub findData : List ℕ → ℕ → ℕ → ℕ → List ℕ
+findData a base tag n = findDataOf current a base tag n
 
 -- where that part starts, counted from the start of the area; of a refused find at the start
 abbrev pub partOffset : Found → ℕ

@@ -1,5 +1,6 @@
--- The written rules of document 01, one file for each part of it, in its order. Read them in the order of these lines.
--- The words for bytes (field, leBytes, xor, splice) are those of wire's specs/Bytes.antt.
+-- The written rules of document 01, one file for each part of it, in its order, and behind them one for each request of document 02
+-- that adds a call. Read them in the order of these lines.
+-- The words for bytes (field, leBytes, xor, splice, sum) are those of wire's specs/Bytes.antt.
 pub mod Area
 pub mod Header
 pub mod Entries
@@ -17,3 +18,4 @@ pub mod Void
 pub mod Relocate
 pub mod Edit
 pub mod Demand3
+pub mod Edition09

@@ -1,4 +1,4 @@
--- What create and the edits come to: a refusal, which changes no byte, or a number to answer with the lent bytes afterwards.
+-- What create, the edits and the conversion come to: a refusal, which changes no byte, or a number to answer with the lent bytes afterwards.
 use Prim.Native.Nat.{ℕ}
 use mathlib.Core.List.{List}
 use Rattle.rules.specs.declared.Refusal.{Refusal}

@@ -48,14 +48,14 @@ numberOf Room = 14
 abbrev pub refusesArea : ℕ → ℕ → Bool
 refusesArea base len = not (usable base len)
 
--- 2: L is under 24, the edition's header size; for create, L is 24 or less
+-- 2: L is under 24, the edition's header size (as amended by request 1, 16 in edition 0.9); for create, L is 24 or less
 abbrev pub refusesShort : Edition → ℕ → Bool
 refusesShort ed len = ltb len (ed .headerSize)
 
 abbrev pub refusesShortCreate : ℕ → Bool
 refusesShortCreate len = leb len headerSize
 
--- 3: the signature differs
+-- 3: the signature differs, as amended by request 1 from the edition's
 abbrev pub refusesSignature : Edition → Header → Bool
 refusesSignature ed h = not (eqb (h .signature) (ed .signature))
 
@@ -63,7 +63,7 @@ refusesSignature ed h = not (eqb (h .signature) (ed .signature))
 abbrev pub refusesVersion : Header → Bool
 refusesVersion h = eqb (h .version) 0
 
--- 5: version is over 1 and the call is add, add aligned, void or relocate
+-- 5: version is over 1 and the call is add, add aligned, void or relocate or, as amended by request 1, a conversion
 abbrev pub refusesReadonly : Bool → Header → Bool
 refusesReadonly editing h = editing && ltb currentVersion (h .version)
 
@@ -71,8 +71,8 @@ refusesReadonly editing h = editing && ltb currentVersion (h .version)
 abbrev pub outsideAlignment : ℕ → Bool
 outsideAlignment a = ltb a leastAlignment || ltb maxAlignment a
 
--- 6: hdr_size is not 24 (version 1) or is under 24 (above), 24 being the edition's header size; alignment is outside 3 to 12; used or
--- total is no multiple of 8; used is under align8(hdr_size); used exceeds total; total exceeds L
+-- 6: hdr_size is not 24 (version 1) or is under 24 (above), 24 being the edition's header size (as amended by request 1, 16 in edition
+-- 0.9); alignment is outside 3 to 12; used or total is no multiple of 8; used is under align8(hdr_size); used exceeds total; total exceeds L
 abbrev pub refusesSizes : Edition → Header → ℕ → Bool
 refusesSizes ed h len =
     wrongHeaderSize (h .version) (ed .headerSize) (h .«hdr_size»)
@@ -83,7 +83,7 @@ refusesSizes ed h len =
     || ltb (h .«total_size») (h .«used_size»)
     || ltb len (h .«total_size»)
 
--- 7: the checksum rule is broken
+-- 7: the checksum rule, as amended by request 1 the edition's, is broken
 abbrev pub refusesChecksum : Edition → List ℕ → Bool
 refusesChecksum ed a = not (ed .summed a)
 

@@ -1,6 +1,8 @@
-// The functions that are shipped: for C, and find's second form for Rattle. Each is thin and has the whole statement: no requires, an
+// The functions that are shipped: for C, and find's second forms for Rattle. Each is thin and has the whole statement: no requires, an
 // equation for the answer and one for each buffer that is lent for writing. What an edit is promised to do is one record, `Promised`:
-// its answer is that of the written rules, so is every lent byte afterwards, and where the number is 0 all of demand 3 holds.
+// its answer is that of the written rules, so is every lent byte afterwards, and where the number is 0 all of demand 3 holds. What a
+// conversion is promised to do is `ConvertPromised`, likewise, with what holds of a converted list.
+use convert::convert;
 use create::create;
 use edit::edits;
 use relocate::relocate;
@@ -9,6 +11,7 @@ use rules::DoneAnswer;
 use rules::FindAnswer;
 use walk::check;
 use walk::find;
+use walk::format::Format;
 ghost use mathlib.Core.Path.{_≡_};
 ghost use Prim.Native.Nat.{_+_};
 ghost use Rattle.rules.specs.Check.{check as checkRule, checkAnswer};
@@ -17,6 +20,7 @@ ghost use Rattle.rules.specs.Outcome.{answer, bytesAfter, doneAnswer};
 ghost use Rattle.rules.specs.Create.{create as createRule};
 ghost use Rattle.rules.specs.Edit.{toAdd, toAddAligned, toVoid, toRelocate};
 ghost use Rattle.rules.specs.Demand3.{Promised};
+ghost use Rattle.rules.specs.Edition09.{check09, find09, findData09, ConvertPromised};
 
 // Checks the list in area, which stands at base.
 #[no_mangle]
@@ -100,4 +104,42 @@ pub extern "C" fn tl_relocate(
     ensures { λ r. ⌜ Promised (toRelocate (now (target .entry)) «target_base») (now (area .entry)) base r (now (target .exit)) ⌝ }
 {
     relocate::relocate(area, base, target, target_base).numbers()
+}
+
+// Checks the list of edition 0.9 in area, which stands at base.
+#[no_mangle]
+pub extern "C" fn tl09_check(area: &[u8], base: u64) -> CheckAnswer
+    ensures { λ r. ⌜ r ≡ checkAnswer (check09 (now (area .entry)) base) ⌝ }
+{
+    check::check_of(Format::Edition09, area, base).numbers()
+}
+
+// Finds the data of occurrence n of a tag in a list of edition 0.9.
+#[no_mangle]
+pub extern "C" fn tl09_find(area: &[u8], base: u64, tag: u32, n: u64) -> FindAnswer
+    ensures { λ r. ⌜ r ≡ findAnswer (find09 (now (area .entry)) base tag n) ⌝ }
+{
+    find::find_of(Format::Edition09, area, base, tag, n).numbers()
+}
+
+// The data itself, as a part of the caller's area; the empty part where tl09_find refuses.
+pub fn tl09_find_data(area: &[u8], base: u64, tag: u32, n: u64) -> &[u8]
+    ensures { λ r. ⌜ now r ≡ findData09 (now (area .entry)) base tag n ⌝ }
+    ensures { λ r. ⌜ r .ptr .0 ≡ area .entry .ptr .0 ⌝ }
+    ensures { λ r. ⌜ r .ptr .1 ≡ area .entry .ptr .1 + partOffset (find09 (now (area .entry)) base tag n) ⌝ }
+{
+    find::find_data_of(Format::Edition09, area, base, tag, n)
+}
+
+// Converts the list of edition 0.9 into the target, as a current list with checksums on. Answers the shift.
+#[no_mangle]
+pub extern "C" fn tl09_convert(
+    area: &[u8],
+    base: u64,
+    target: &mut [u8],
+    target_base: u64,
+) -> DoneAnswer
+    ensures { λ r. ⌜ ConvertPromised (now (area .entry)) base (now (target .entry)) «target_base» r (now (target .exit)) ⌝ }
+{
+    convert::convert(area, base, target, target_base).numbers()
 }

@@ -1,7 +1,9 @@
-// Runs the paper's examples A to N on real bytes and prints what the functions answer and leave; the file stdout holds what the paper
-// says. A line: the example, the call, the answer's numbers, and the bytes: of a find the data, of create and an edit the whole area or
-// target, of two large areas the first 24 bytes.
+// Runs the paper's examples A to N, and examples of edition 0.9, on real bytes and prints what the functions answer and leave; the file
+// stdout holds what the papers' rules give. A line: the example, the call, the answer's numbers, and the bytes: of a find the data, of create and
+// an edit the whole area or target, of two large areas the first 24 bytes.
+use rules::CheckAnswer;
 use rules::Done;
+use rules::FindAnswer;
 
 fn number(n: u32) {
     io::write_all(1, b" ");
@@ -18,8 +20,7 @@ fn show_bytes(s: &[u8]) {
     }
 }
 
-fn show_check(example: &[u8], area: &[u8], base: u64) {
-    let a = walk::check::check(area, base).numbers();
+fn show_checked(example: &[u8], a: CheckAnswer) {
     io::write_all(1, example);
     io::write_all(1, b" check");
     number(a.number);
@@ -32,15 +33,27 @@ fn show_check(example: &[u8], area: &[u8], base: u64) {
     io::write_all(1, b"\n");
 }
 
-fn show_find(example: &[u8], area: &[u8], base: u64, tag: u32, n: u64) {
-    let a = walk::find::find(area, base, tag, n).numbers();
+fn show_check(example: &[u8], area: &[u8], base: u64) {
+    show_checked(example, walk::check::check(area, base).numbers());
+}
+
+fn show_found(example: &[u8], a: FindAnswer, data: &[u8]) {
     io::write_all(1, example);
     io::write_all(1, b" find");
     number(a.number);
     number(a.offset);
     number(a.size);
-    show_bytes(transfer_list::tl_find_data(area, base, tag, n));
+    show_bytes(data);
     io::write_all(1, b"\n");
+}
+
+fn show_find(example: &[u8], area: &[u8], base: u64, tag: u32, n: u64) {
+    let found = walk::find::find(area, base, tag, n).numbers();
+    show_found(
+        example,
+        found,
+        transfer_list::tl_find_data(area, base, tag, n),
+    );
 }
 
 fn show_done(example: &[u8], d: Done, bytes: &[u8]) {
@@ -192,6 +205,91 @@ fn example_n() {
     show_check(b"N", &area, 0x1000);
 }
 
+// ---- Edition 0.9. Source 000 has no examples, so these are our own.
+
+fn show_check09(example: &[u8], area: &[u8], base: u64) {
+    show_checked(example, transfer_list::tl09_check(area, base));
+}
+
+fn show_find09(example: &[u8], area: &[u8], base: u64, tag: u32, n: u64) {
+    let found = transfer_list::tl09_find(area, base, tag, n);
+    show_found(
+        example,
+        found,
+        transfer_list::tl09_find_data(area, base, tag, n),
+    );
+}
+
+// The whole target, full of ff before.
+fn show_convert09(example: &[u8], area: &[u8], base: u64, target_base: u64) {
+    let mut target = [0xffu8; 64];
+    let converted = convert::convert(area, base, &mut target, target_base);
+    show_done(example, converted, &target);
+}
+
+// The same with one byte less.
+fn show_convert09_to_63(example: &[u8], area: &[u8], base: u64, target_base: u64) {
+    let mut target = [0xffu8; 63];
+    let converted = convert::convert(area, base, &mut target, target_base);
+    show_done(example, converted, &target);
+}
+
+// A new list of 16 bytes; tag 1 with aa bb cc; a void of 8; version 2 with a header of 20 bytes; what is refused.
+fn examples_09() {
+    let new = b"\xff\xd0\x6e\0\x71\x01\x10\x03\x10\0\0\0\x10\0\0\0";
+    let entry =
+        b"\xff\xd0\x6e\0\xce\x01\x10\x03\x20\0\0\0\x20\0\0\0\x01\0\0\x08\x03\0\0\0\xaa\xbb\xcc\0\0\0\0\0";
+    let void =
+        b"\xff\xd0\x6e\0\xa1\x01\x10\x03\x20\0\0\0\x20\0\0\0\0\0\0\x08\x08\0\0\0\0\0\0\0\0\0\0\0";
+    let later =
+        b"\xff\xd0\x6e\0\xe3\x02\x14\x03\x28\0\0\0\x28\0\0\0\0\0\0\0\0\0\0\0\x01\0\0\x08\x03\0\0\0\xaa\xbb\xcc\0\0\0\0\0";
+    show_check09(b"09 new", new, 0x1000);
+    show_check09(
+        b"09 new of 15",
+        b"\xff\xd0\x6e\0\x71\x01\x10\x03\x10\0\0\0\x10\0\0",
+        0x1000,
+    );
+    show_check09(b"09 entry", entry, 0x1000);
+    show_find09(b"09 entry", entry, 0x1000, 1, 0);
+    show_find09(b"09 entry", entry, 0x1000, 1, 1);
+    show_find09(b"09 entry", entry, 0x1000, 0, 0);
+    show_check09(b"09 void", void, 0x1000);
+    show_check09(b"09 later version", later, 0x1000);
+    show_find09(b"09 later version", later, 0x1000, 1, 0);
+    show_check09(
+        b"09 sum negated",
+        b"\xff\xd0\x6e\0\x32\x01\x10\x03\x20\0\0\0\x20\0\0\0\x01\0\0\x08\x03\0\0\0\xaa\xbb\xcc\0\0\0\0\0",
+        0x1000,
+    );
+    show_check09(
+        b"09 sum with byte 4",
+        b"\xff\xd0\x6e\0\x9c\x01\x10\x03\x20\0\0\0\x20\0\0\0\x01\0\0\x08\x03\0\0\0\xaa\xbb\xcc\0\0\0\0\0",
+        0x1000,
+    );
+    show_check09(b"09 odd address", entry, 0x1004);
+    show_check(b"09 as current", entry, 0x1000);
+    show_convert09(b"09 new convert", new, 0, 0x1000);
+    show_convert09(b"09 entry convert", entry, 0, 0x1000);
+    show_convert09(b"09 void convert", void, 0, 0x1000);
+    show_convert09(b"09 beyond 2^48 convert", entry, 0, 0xffffffffffc1);
+    show_convert09(b"09 later version convert", later, 0, 0x1000);
+}
+
+// A void that has data and tag 4 whose padding is not 0, converted from base 0 with alignment 3, 6 and 12 and from 0x1040.
+fn conversions_09() {
+    let three =
+        b"\xff\xd0\x6e\0\x7c\x01\x10\x03\x30\0\0\0\x30\0\0\0\0\0\0\x08\x08\0\0\0old data\x04\0\0\x08\x04\0\0\0\x01\x02\x03\x04pads";
+    let six =
+        b"\xff\xd0\x6e\0\x7f\x01\x10\x06\x30\0\0\0\x30\0\0\0\0\0\0\x08\x08\0\0\0old data\x04\0\0\x08\x04\0\0\0\x01\x02\x03\x04pads";
+    let twelve =
+        b"\xff\xd0\x6e\0\x85\x01\x10\x0c\x30\0\0\0\x30\0\0\0\0\0\0\x08\x08\0\0\0old data\x04\0\0\x08\x04\0\0\0\x01\x02\x03\x04pads";
+    show_convert09(b"09 alignment 3 convert", three, 0, 0xff0);
+    show_convert09(b"09 alignment 6 convert", six, 0, 0xff0);
+    show_convert09(b"09 alignment 12 convert", twelve, 0, 0xff0);
+    show_convert09(b"09 alignment 12 at 0x1040 convert", twelve, 0x1040, 0x1030);
+    show_convert09_to_63(b"09 no room convert", twelve, 0, 0xff0);
+}
+
 fn main() {
     examples_a_to_d();
     example_e(b"0123456789abcdefg");
@@ -209,4 +307,6 @@ fn main() {
     example_k();
     example_m();
     example_n();
+    examples_09();
+    conversions_09();
 }

@@ -10,16 +10,21 @@ use Rattle.rules.specs.declared.Header.{Header}
 use Rattle.rules.specs.declared.Refusal.{Refusal}
 use Rattle.rules.specs.declared.Refusal.the-variants.{Entry}
 use Rattle.rules.specs.Header.{headerOf}
-use Rattle.rules.specs.Edition.{current}
+use Rattle.rules.specs.Edition.{Edition}
 use Rattle.rules.specs.Entries.{Walk, entries, broken, firstEntry, seen}
 use Rattle.rules.specs.Check.{walked, headerRefusal}
+use Rattle.rules.specs.Edition09.{edition09}
+use Rattle.laws.proofs.Walk.{header-least}
 use Rattle.laws.proofs.Check as laws
+use Rattle.walk.specs.declared.format.Format.{Format}
+use Rattle.walk.specs.declared.format.Format.the-variants.{Current, Edition09}
 use Rattle.walk.specs.declared.header.Headed.the-variants.{Good, Refused}
 use Rattle.walk.specs.declared.cursor.Walked.{Walked}
 use Rattle.walk.specs.declared.cursor.Walked.the-variants.{Counts, Broken}
 use Rattle.walk.specs.declared.wanted.Wanted.{Wanted}
 use Rattle.walk.specs.declared.check.Surveyed.{Surveyed}
 use Rattle.walk.specs.declared.check.Surveyed.the-variants as survey
+use Rattle.walk.specs.Format.{editionOf}
 use Rattle.walk.specs.Headed.{headed, headedOf}
 use Rattle.walk.specs.Wanted.{wantedOf, told}
 use Rattle.walk.specs.Survey.{surveyed}
@@ -38,23 +43,36 @@ module _ (h : Header) where
   why none r k = absurd (let z : _≡_ {A = ℕ} 0 1 = cc in omega arith)
 
 -- what a good header tells
-pub record GoodHeader (editing : Bool) (a : List ℕ) (base : ℕ) (h : Header) : Type 0 where
-  pub passed : headerRefusal current editing base (length a) (headerOf a) ≡ none
+pub record GoodHeader (ed : Edition) (editing : Bool) (a : List ℕ) (base : ℕ) (h : Header) : Type 0 where
+  pub passed : headerRefusal ed editing base (length a) (headerOf a) ≡ none
   pub same : h ≡ headerOf a
+  pub least : ed .headerSize ≤ h .«used_size»
   pub first : firstEntry h ≤ h .«used_size»
   pub used : h .«used_size» ≤ length a
 
-module _ (editing : Bool) (a : List ℕ) (base : ℕ) where
-  pub good-header : (h : Header) → headedOf editing a base ≡ Good h → GoodHeader editing a base h
+module _ (ed : Edition) (editing : Bool) (a : List ℕ) (base : ℕ) where
+  pub good-header : (h : Header) → headedOf ed editing a base ≡ Good h → GoodHeader ed editing a base h
   good-header h k =
       let p = unrefused (headerOf a) _ h k in
-      let z = laws.header-sound current editing base (length a) (headerOf a) (p .0) .0 .sizes in
-      record { passed = p .0; same = p .1; first = rw (p .1) (z .first); used = rw (p .1) (omega (arith, z .used, z .total)) }
+      let z = laws.header-sound ed editing base (length a) (headerOf a) (p .0) .0 .sizes in
+      let least = header-least (headerOf a .version) (ed .headerSize) _ (z .header) in
+      record {
+        passed = p .0;
+        same = p .1;
+        least = rw (p .1) (omega (arith, least, z .first));
+        first = rw (p .1) (z .first);
+        used = rw (p .1) (omega (arith, z .used, z .total));
+      }
 
   -- and a refused one
-  pub bad-header : (r : Refusal) → headedOf editing a base ≡ Refused r
-      → headerRefusal current editing base (length a) (headerOf a) ≡ some r
+  pub bad-header : (r : Refusal) → headedOf ed editing a base ≡ Refused r
+      → headerRefusal ed editing base (length a) (headerOf a) ≡ some r
   bad-header r k = why (headerOf a) _ r k
+
+-- edition 0.9's header is the shortest
+pub shortest : (f : Format) → edition09 .headerSize ≤ editionOf f .headerSize
+shortest Current = omega arith
+shortest Edition09 = omega arith
 
 -- ---- the walk
 

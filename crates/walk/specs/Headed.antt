@@ -8,7 +8,7 @@ use Rattle.rules.specs.declared.Header.{Header}
 use Rattle.rules.specs.declared.Refusal.{Refusal}
 use Rattle.rules.specs.declared.Refusal.the-variants.{Area}
 use Rattle.rules.specs.Header.{headerOf}
-use Rattle.rules.specs.Edition.{current}
+use Rattle.rules.specs.Edition.{Edition}
 use Rattle.rules.specs.Check.{headerRefusal}
 use Rattle.walk.specs.declared.header.Headed.{Headed}
 use Rattle.walk.specs.declared.header.Headed.the-variants.{Good, Refused}
@@ -18,9 +18,9 @@ abbrev pub headed : Header → Option Refusal → Headed
 headed h (some r) = Refused r
 headed h none = Good h
 
--- of a list's bytes at a base
-abbrev pub headedOf : Bool → List ℕ → ℕ → Headed
-headedOf editing a base = headed (headerOf a) (headerRefusal current editing base (length a) (headerOf a))
+-- of the bytes of an edition's list at a base
+abbrev pub headedOf : Edition → Bool → List ℕ → ℕ → Headed
+headedOf ed editing a base = headed (headerOf a) (headerRefusal ed editing base (length a) (headerOf a))
 
 -- why a header was refused; of a good one it is not asked
 abbrev pub refusalOfHeaded : Headed → Refusal

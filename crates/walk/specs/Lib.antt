@@ -1,3 +1,4 @@
+pub mod Format
 pub mod Headed
 pub mod Cursor
 pub mod Wanted

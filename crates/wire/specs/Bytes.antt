@@ -1,4 +1,4 @@
--- The words in which everything here speaks of bytes: little-endian numbers, exclusive or, and a stretch put into a list.
+-- The words in which everything here speaks of bytes: little-endian numbers, exclusive or, sums, and a stretch put into a list.
 -- A list of bytes is a list of numbers; nothing here knows what a transfer list is.
 use Prim.Native.Nat.{ℕ, zero, suc, _+_, _*_, _/_, _%_}
 use mathlib.Core.List.{List, [], _∷_, _++_}
@@ -23,3 +23,8 @@ xor (b ∷ bs) = bitXor b (xor bs)
 -- a with the bytes new from at on, and every other byte as it was
 unfoldable pub splice : List ℕ → ℕ → List ℕ → List ℕ
 splice a at new = take at a ++ (new ++ drop (at + length new) a)
+
+-- the sum of all bytes
+unfoldable pub sum : List ℕ → ℕ
+sum [] = 0
+sum (b ∷ bs) = b + sum bs

@@ -1,8 +1,8 @@
-// Numbers, exclusive or, zeros and copies on slices of bytes. Knows nothing of transfer lists.
+// Numbers, exclusive or, sums, zeros and copies on slices of bytes. Knows nothing of transfer lists.
 ghost use mathlib.Core.Path.{_≡_};
-ghost use Prim.Native.Nat.{_+_, _≤_};
-ghost use lib.ListN.{length, take, drop, replicate};
-ghost use Rattle.wire.specs.Bytes.{field, leBytes, xor, splice};
+ghost use Prim.Native.Nat.{_+_, _%_, _^_, _≤_, _<_};
+ghost use lib.ListN.{length, take, drop, getD, replicate};
+ghost use Rattle.wire.specs.Bytes.{field, leBytes, xor, splice, sum};
 
 // A byte as a wider number: the cast asks for no proof here.
 fn wide(x: u8) -> u32
@@ -127,4 +127,42 @@ pub fn copy_part(a: &mut [u8], at: usize, src: &[u8])
         a[at + i] = src[i];
         i += 1;
     }
+}
+
+// The byte at a place, 0 behind the end.
+fn byte_or_zero(s: &[u8], at: usize) -> u8
+    ensures { λ r. ⌜ r ≡ getD (now (s .entry)) at 0 ⌝ }
+{
+    if at < s.len() {
+        return s[at];
+    }
+    0
+}
+
+// The little-endian number of the four bytes from at on, of which those behind the end count 0.
+pub fn read4_or_zeros(s: &[u8], at: usize) -> u32
+    requires { ⌜ at < 2 ^ 32 ⌝ }
+    ensures { λ r. ⌜ r ≡ field (now (s .entry)) at 4 ⌝ }
+{
+    if at + 4 <= s.len() {
+        return read4(s, at);
+    }
+    let b = at + 1;
+    let c = b + 1;
+    let low = wide(byte_or_zero(s, at)) + 256 * wide(byte_or_zero(s, b));
+    low + 65536 * (wide(byte_or_zero(s, c)) + 256 * wide(byte_or_zero(s, c + 1)))
+}
+
+// The sum modulo 256 of the n bytes from at on.
+pub fn sum_part(s: &[u8], at: usize, n: usize) -> u8
+    requires { ⌜ at + n ≤ length (now s) ⌝ }
+    ensures { λ r. ⌜ r ≡ sum (take n (drop at (now (s .entry)))) % 256 ⌝ }
+{
+    let mut x: u8 = 0;
+    let mut i: usize = 0;
+    while i < n {
+        x = std::num::wrapping_add_u8(x, s[at + i]);
+        i += 1;
+    }
+    x
 }

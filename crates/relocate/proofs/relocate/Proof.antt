@@ -1,20 +1,16 @@
--- A refused list, a refused target and too little room are the answer; otherwise the target is written as the rule has it.
+-- A refused list is the answer; otherwise the place decides, and where there is one the target is written as the rule has it.
 use mathlib.Core.Path.{_≡_, sym, ap, _∙_}
-use Prim.Native.Nat.{ℕ, _+_, _-_, _≤_, _<_, _^_}
+use Prim.Native.Nat.{ℕ, _≤_}
 use native.Mathlib.Omega.{arith}
 use lib.ListN.{length}
-use lib.Pow.{pow-pos}
-use borrow.Author.Tests.{lt-ltb, le-ltb}
-use Rattle.rules.specs.declared.Header.{Header}
-use Rattle.rules.specs.Area.{maxAddress, maxLength, maxAlignment}
-use Rattle.rules.specs.Header.{headerOf}
-use Rattle.rules.specs.Outcome.{Outcome}
-use Rattle.rules.specs.Relocate.{newBase, shift, moveTo, relocate as relocateRule}
+use Rattle.rules.specs.Area.{maxLength, maxAlignment}
+use Rattle.rules.specs.Edition.{current}
+use Rattle.rules.specs.Relocate.{targetBytes}
 use Rattle.rules.specs.Edit.{run, toRelocate}
-use Rattle.laws.proofs.Check.{Admitted}
-use Rattle.laws.proofs.NewBase.{newBase-least}
+use Rattle.laws.proofs.Check.{Admitted, used-most}
 use Rattle.walk.proofs.Survey as survey
-use Rattle.relocate.proofs.Laws.{shift-near, target-reach}
+use Rattle.destination.proofs.Laws.{outcomeAt, HasRoom, placed-room}
+use Rattle.relocate.proofs.Laws.{relocate-placed}
 use borrow.Author.Needs.{needs}
 use Rattle.relocate.proofs.relocate.Statement.{statement}
 use Rattle.relocate.proofs.relocate.Tie as tie
@@ -41,108 +37,75 @@ returns c =
     let r = survey.refused _ _ _ _ _ (sym (s .survey .ensures) ∙ k) in
     (simp (c .refusal .ensures, k, r), simp r)
 
-refuses-target-requires : tie.Need-refuses-target-requires
-refuses-target-requires c κs = search needs
+cast-needed : tie.Need-cast-needed
+cast-needed c = search needs
 
 abbrev S : tie.After-surveyed → tie.Start
 S c = c .before .before .before .before .before .before
 
--- the outcome that the rules give
-abbrev ruled : tie.After-surveyed → Outcome
-ruled c = let a = S c .args in run (toRelocate (a .target .now) (a .target-base)) (a .area .now) (a .base)
-
--- the list is admitted
-ran : (c : tie.After-surveyed) → let a = S c .args in ruled c ≡ relocateRule (a .area .now) (a .base) (a .target .now) (a .target-base)
-ran c = simp (survey.accepted _ _ _ _ _ _ _ (sym (c .before .before .survey .ensures) ∙ c .surveyed .given .1) .checked)
-
 admitted : (c : tie.After-surveyed) → Admitted (S c .args .area .now) (S c .args .base) (c .surveyed .given .0 .1 .0)
 admitted c = survey.admitted _ _ _ _ _ _ (sym (c .before .before .survey .ensures) ∙ c .surveyed .given .1)
 
-returns-2 : tie.Need-returns-2
-unfolding relocateRule
-returns-2 c =
-    let t = c .before in
-    let e = ran (t .before .before) in
-    (rw e (simp (← t .refuses-target .ensures, c .if1 .taken)), rw e (simp (← t .refuses-target .ensures, c .if1 .taken)))
+-- the alignment and the used size are small
+small : (c : tie.After-surveyed) → let h = c .surveyed .given .0 .1 .0 in (h .alignment ≤ maxAlignment) × (h .«used_size» ≤ maxLength)
+small c =
+    let m = admitted c in
+    rw (m .header) (m .sound .header .sizes .most, omega (arith, used-most current _ _ (m .sound), m .sound .header .usable .short))
 
-abbrev K : tie.Else1 → tie.After-surveyed
+find-place-requires : tie.Need-find-place-requires
+find-place-requires c κs = let b = small (c .before .before) in (omega arith, omega arith, omega arith)
+
+abbrev K : tie.After-find-place → tie.After-surveyed
 K c = c .before .before .before
 
--- what the target keeps to
-reached : (c : tie.Else1) → let a = S (K c) .args in
-    (a .target-base + length (a .target .now) ≤ maxAddress) × (length (a .target .now) ≤ maxLength)
-reached c = target-reach _ _ (sym (c .before .refuses-target .ensures) ∙ c .if1 .left)
+-- the outcome that the rules give is that of the place
+ruled : (c : tie.After-find-place) → let a = S (K c) .args in
+    run (toRelocate (a .target .now) (a .target-base)) (a .area .now) (a .base)
+    ≡ outcomeAt (λ (by : ℕ). targetBytes (a .area .now) by (length (a .target .now))) (c .find-place .result)
+ruled c =
+    let k = K c in
+    let t = survey.accepted _ _ _ _ _ _ _ (sym (k .before .before .survey .ensures) ∙ k .surveyed .given .1) .checked in
+    simp t (relocate-placed _ _ _ _ _ (admitted k .header)) ∙ ap (outcomeAt _) (sym (c .find-place .ensures))
 
--- the alignment is at most the largest
-aligned : (c : tie.Else1) → K c .surveyed .given .0 .1 .0 .alignment ≤ maxAlignment
-aligned c = let m = admitted (K c) in rw (m .header) (m .sound .header .sizes .most)
+enum-known-place : tie.Need-enum-known-place
+enum-known-place c = search needs
 
-new-base-requires : tie.Need-new-base-requires
-new-base-requires c κs =
-    let r = reached c in
-    (omega (arith, aligned c), omega arith)
+enum-told-2 : tie.Need-enum-told-2
+enum-told-2 c = search needs
 
--- the new base is at or above the target base, and near it
-least : (c : tie.After-new-base) → S (K (c .before)) .args .target-base ≤ c .new-base .result
-least c = rw (c .new-base .ensures) (newBase-least _ _ _ (pow-pos _))
+refusal-requires-2 : tie.Need-refusal-requires-2
+refusal-requires-2 c κs = search needs
 
-near : (c : tie.After-new-base) → c .new-base .result - S (K (c .before)) .args .target-base < 2 ^ maxAlignment
-near c = rw (c .new-base .ensures) (shift-near _ _ _ (aligned (c .before)))
+returns-2 : tie.Need-returns-2
+returns-2 c =
+    let k = c .before .enum-told2 .given .1 in
+    let e = ruled (c .before .before .before) ∙ ap (outcomeAt _) k in
+    (rw (e, c .refusal2 .ensures, k), rw e)
 
-sub-shift : tie.Need-sub-shift
-sub-shift c = least c
-
-cast-if2 : tie.Need-cast-if2
-cast-if2 c = search needs
-
-add-if2 : tie.Need-add-if2
-add-if2 c = omega (arith, near (c .before))
-
--- past the checks the rule is the move to the shift
-shifted : (c : tie.After-new-base) → let a = S (K (c .before)) .args in
-    ruled (K (c .before)) ≡ moveTo (a .area .now) (c .new-base .result - a .target-base) (length (a .target .now))
-unfolding relocateRule shift
-shifted c =
-    let a = S (K (c .before)) .args in
-    let h = admitted (K (c .before)) .header in
-    let n = c .new-base .ensures ∙ ap (λ (x : Header). newBase (2 ^ x .alignment) (a .base) (a .target-base)) h in
-    ran (K (c .before))
-    ∙ simp (← c .before .before .refuses-target .ensures, c .before .if1 .left)
-    (ap (λ (x : ℕ). moveTo (a .area .now) (x - a .target-base) (length (a .target .now))) (sym n))
-
--- the room that the used bytes need
-needed : (c : tie.After-new-base) → let a = S (K (c .before)) .args in let by = c .new-base .result - a .target-base in
-    by + K (c .before) .surveyed .given .0 .1 .0 .«used_size» ≡ by + headerOf (a .area .now) .«used_size»
-needed c = ap (λ (x : Header). c .new-base .result - S (K (c .before)) .args .target-base + x .«used_size») (admitted (K (c .before)) .header)
-
-returns-3 : tie.Need-returns-3
-unfolding moveTo
-returns-3 c =
-    let n = c .before .before in
-    let e = shifted n in
-    let t = lt-ltb _ _ (rw (needed n) at (c .if2 .taken)) in
-    (rw (e, t), rw (e, t))
+-- the list fits there
+fits : (c : tie.After-place) → let f = c .before .before in
+    HasRoom (length (S (K f) .args .target .now)) (K f .surveyed .given .0 .1 .0 .«used_size») (c .place .given .0 .0)
+fits c = placed-room _ _ _ _ _ _ _ (sym (c .before .before .find-place .ensures) ∙ c .place .given .1)
 
 write-target-requires : tie.Need-write-target-requires
 write-target-requires c κs =
-    let n = c .before .before .before in
-    let r = reached (n .before) in
-    (admitted (K (n .before)), omega arith, omega arith)
+    let p = c .before .before in
+    let f = fits p in
+    (admitted (K (p .before .before)), f .room, omega (arith, f .short))
 
-cast-t22 : tie.Need-cast-t22
-cast-t22 c = omega (arith, near (c .before .before .before .before .before .before))
+cast-t17 : tie.Need-cast-t17
+cast-t17 c =
+    let f = fits (c .before .before .before .before .before) in
+    omega (arith, f .room, f .short)
 
 same-length : tie.Need-same-length
 same-length c = search needs
 
-returns-4 : tie.Need-returns-4
-unfolding moveTo
-returns-4 c =
-    let i = c .before .before .before .before in
-    let n = i .before .before in
-    let e = shifted n in
-    let t = le-ltb _ _ (rw (needed n) at (i .if2 .left)) in
-    (rw (e, t), rw (e, t) (c .before .before .write-target .ensures))
+returns-3 : tie.Need-returns-3
+returns-3 c =
+    let p = c .before .before .before .before .before in
+    let e = ruled (p .before .before) ∙ ap (outcomeAt _) (p .place .given .1) in
+    (rw e, rw e (c .before .before .write-target .ensures))
 
 pub relocate-spec : {M : Type 1} → statement M
 relocate-spec =
@@ -154,14 +117,13 @@ relocate-spec =
     enum-told
     refusal-requires
     returns
-    refuses-target-requires
+    cast-needed
+    find-place-requires
+    enum-known-place
+    enum-told-2
+    refusal-requires-2
     returns-2
-    new-base-requires
-    sub-shift
-    cast-if2
-    add-if2
-    returns-3
     write-target-requires
-    cast-t22
+    cast-t17
     same-length
-    returns-4)
+    returns-3)

@@ -1,4 +1,4 @@
--- Each field is read at its place in the table; a field of one byte is that byte.
+-- Each field is read at its place in the table; a field of one byte is that byte, and behind the end a field's bytes count 0.
 use mathlib.Core.Path.{_≡_}
 use Prim.Native.Nat.{ℕ}
 use native.Mathlib.Omega.{arith}
@@ -31,11 +31,11 @@ read4-requires-2 c κs = search needs
 read4-requires-3 : tie.Need-read4-requires-3
 read4-requires-3 c κs = search needs
 
-read4-requires-4 : tie.Need-read4-requires-4
-read4-requires-4 c κs = search needs
+read4-or-zeros-requires : tie.Need-read4-or-zeros-requires
+read4-or-zeros-requires c κs = search needs
 
-read4-requires-5 : tie.Need-read4-requires-5
-read4-requires-5 c κs = search needs
+read4-or-zeros-requires-2 : tie.Need-read4-or-zeros-requires-2
+read4-or-zeros-requires-2 c κs = search needs
 
 -- a field of one byte is the byte
 one-byte : (a : List ℕ) (at : ℕ) → field a at 1 ≡ getD a at 0
@@ -48,8 +48,8 @@ returns c =
     let d = c .before .before .before in
     simp (
       one-byte,
-      ← c .read45 .ensures,
-      ← c .before .read44 .ensures,
+      ← c .read4-or-zeros2 .ensures,
+      ← c .before .read4-or-zeros .ensures,
       ← c .before .before .read43 .ensures,
       ← d .read42 .ensures,
       ← d .before .before .before .before .before .read4 .ensures,
@@ -66,6 +66,6 @@ read-header-spec =
     shared-slice-read-t10
     read4-requires-2
     read4-requires-3
-    read4-requires-4
-    read4-requires-5
+    read4-or-zeros-requires
+    read4-or-zeros-requires-2
     returns)

@@ -1,0 +1,2 @@
+-- Laws of a conversion's bytes.
+pub mod Laws
