@@ -1,7 +1,8 @@
 /*
  * The paper's examples A to N (it has no L) and every refusal, through the header alone. For each call every field of the answer is
  * printed, how many bytes changed, and the bytes where any did. `make ctest` compares this with answers.expected, which was worked out
- * from the paper and not with this library. The examples of edition 0.9 are our own, since source 000 has none.
+ * from the paper and not with this library. The examples of edition 0.9 are our own, since source 000 has none, and so are those of
+ * document 02, request 2.
  */
 #include <inttypes.h>
 #include <stdio.h>
@@ -579,6 +580,38 @@ static void conversions_09(void)
     convert_at(0xfe8, 12, 0xb9, 0x2fe1, 4095);
 }
 
+static void event_logs(void)
+{
+    title("event log, tag 5: 0 and 3 bytes are SHAPE, 4 and 5 are added, by either add");
+    create(96, 0x1000, true);
+    add(5, 0, false);
+    add(5, 3, false);
+    add(5, 4, false);
+    add(5, 5, false);
+    add_aligned(5, 0, 4);
+    add_aligned(5, 3, 4);
+    add_aligned(5, 4, 4);
+    add_aligned(5, 5, 4);
+    title("event log: SHAPE though a void serves, and before ALIGN and ROOM");
+    create(48, 0x1000, true);
+    add(1, 16, false);
+    add(5, 3, false);
+    add(5, 4, false);
+    add_aligned(5, 3, 13);
+    add_aligned(5, 4, 13);
+    strike(1, 0);
+    add(5, 0, true);
+    add(5, 3, true);
+    add(5, 4, true);
+    title("event log: one of 3 bytes, made elsewhere, is read and struck out");
+    create(64, 0x1000, false);
+    add(4, 3, false);
+    put(24, 1, 5);
+    check();
+    find(5, 0);
+    strike(5, 0);
+}
+
 int main(void)
 {
     examples_a_to_h();
@@ -587,5 +620,6 @@ int main(void)
     edition_09();
     refusals_09();
     conversions_09();
+    event_logs();
     return 0;
 }

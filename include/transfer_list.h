@@ -35,7 +35,7 @@ extern "C" {
                          /* in edition 0.9, the checksum byte is not the sum modulo 256 of the other used bytes */
 #define TL_ENTRY 8u      /* an entry's hdr_size is wrong, it exceeds used_size, or a void's data_size is no multiple of 8 */
 #define TL_TAG 9u        /* the tag is 0 or over 0xffffff; for the adds also 0x800000 to 0xffefff */
-#define TL_SHAPE 10u     /* the tag may not carry data of this length */
+#define TL_SHAPE 10u     /* the tag may not carry data of this length: tag 5 under 4 bytes, 6 not 12, 0x100 not 8, 0x104 not 16 */
 #define TL_ALIGN 11u     /* the exponent is outside 3 to 12 */
 #define TL_TARGET 12u    /* target base + target length exceeds 2^48, or the target length exceeds 65,536 */
 #define TL_NONE 13u      /* no such occurrence of the tag */
@@ -151,7 +151,8 @@ tl_done tl_create(uint8_t *area, size_t len, uint64_t base, bool has_checksum);
  *	each refusal of tl_check()
  *	TL_READONLY, the list's version is over 1; it comes after TL_VERSION and before TL_SIZES
  *	TL_TAG, the tag is 0, over 0xffffff, or 0x800000 to 0xffefff
- *	TL_SHAPE, the tag is 6, 0x100 or 0x104 and data_len is not 12, 8 or 16, respectively
+ *	TL_SHAPE, the tag is 5 and data_len is under 4 (a TPM event log's data begins with a flags word of 4 bytes), or the tag is 6,
+ *	0x100 or 0x104 and data_len is not 12, 8 or 16, respectively
  *	TL_ROOM, no allowed void serves and the entry does not fit behind used_size
  */
 tl_done tl_add(uint8_t *area, size_t len, uint64_t base, uint32_t tag, const uint8_t *data, size_t data_len, bool use_voids);

@@ -140,6 +140,7 @@ fn entries(list: &[u8]) -> impl Iterator<Item = (usize, u32, usize)> + '_ {
 
 fn length_allowed(tag: u32, n: usize) -> bool {
     match tag {
+        5 => n >= 4,
         6 => n == 12,
         0x100 => n == 8,
         0x104 => n == 16,

@@ -3,6 +3,7 @@
 
 use crate::lent::{Guards, Lent};
 use crate::library;
+use oracle::event_logs::EventLogs;
 use oracle::lists::List;
 use oracle::model::{self, Answer, Edition};
 use oracle::params::{self, Facts};
@@ -27,6 +28,7 @@ const OTHER: Times = Times { finds: 1, adds: 1, aligned_adds: 1, voids: 1, reloc
 
 pub struct Bench {
     pub tally: Tally,
+    pub event_logs: EventLogs,
     pub guards: Guards,
 }
 
@@ -46,7 +48,7 @@ pub struct Buffer<'a> {
 
 impl Bench {
     pub fn new(seed: u64) -> Bench {
-        Bench { tally: Tally::default(), guards: Guards::new(seed) }
+        Bench { tally: Tally::default(), event_logs: EventLogs::default(), guards: Guards::new(seed) }
     }
 
     /// All calls on one list, those of the other edition too.
@@ -78,7 +80,7 @@ impl Bench {
         self.judge(&asked, wanted, given, &[untouched("area", &list.area, &area)])
     }
 
-    fn find(&mut self, list: &List, tag: u32, n: u64) -> Result<(), String> {
+    pub fn find(&mut self, list: &List, tag: u32, n: u64) -> Result<(), String> {
         let mut area = self.guards.lend(&list.area);
         let wanted = model::find(&list.area, list.base, tag, n);
         let given = library::find(&mut area, list.base, tag, n);

@@ -49,7 +49,7 @@ impl Bench {
     }
 
     /// An add, an aligned add or a void on a list.
-    fn edit(&mut self, list: &List, edit: &Edit) -> Result<(), String> {
+    pub fn edit(&mut self, list: &List, edit: &Edit) -> Result<(), String> {
         let call = call_of(edit);
         let mut area = self.guards.lend(&list.area);
         let mut data = self.guards.lend(data_of(edit));
@@ -63,6 +63,7 @@ impl Bench {
             untouched("data", data_of(edit), &data),
         ];
         self.judge(&asked, wanted, given, &buffers)?;
+        self.event_logs.count(edit, wanted.number);
         if wanted.number == 0 {
             let held = demand::after_edit(&list.area, &after, list.base, edit, wanted.value);
             asked.demand(held, &buffers)?;

@@ -1,5 +1,5 @@
-//! Lengths over 2^32, which would do if they were cut to 32 bits. Document 01 refuses each of these
-//! calls ("L is at most 65,536", SHAPE, TARGET, ROOM), so no byte changes.
+//! Lengths over 2^32, which would be judged otherwise if they were cut to 32 bits. Document 01 refuses
+//! each of these calls ("L is at most 65,536", SHAPE, TARGET, ROOM), so no byte changes.
 
 use crate::compare::untouched;
 use crate::compare::{Asked, Bench};
@@ -80,9 +80,10 @@ impl Bench {
         self.judge(&asked(Call::Void), wanted, given, &[])
     }
 
-    /// Data whose length, cut to 32 bits, would fit the list and the tag table.
+    /// Data whose length, cut to 32 bits, would fit the list and the tag table, or that only then
+    /// would be too short for an event log.
     fn add_huge_data(&mut self, list: &[u8], huge: &mut Lent) -> Result<(), String> {
-        for (tag, length) in [(0x104, 16), (6, 12), (0x100, 8), (TAG, 4)] {
+        for (tag, length) in [(0x104, 16), (6, 12), (0x100, 8), (TAG, 4), (5, 4), (5, 3)] {
             huge.cut((1 << 32) + length);
             let mut area = self.guards.lend(list);
             let wanted = model::add(&mut list.to_vec(), BASE, tag, huge.bytes(), true);

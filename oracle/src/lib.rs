@@ -1,10 +1,11 @@
-//! The second implementation of document 01 and of document 02, request 1: the model of their jobs,
-//! the lists it is tried on, and what is demanded of a result said once more. Nothing here needs the
-//! library under test.
+//! The second implementation of document 01 and of document 02, requests 1 and 2: the model of their
+//! jobs, the lists it is tried on, and what is demanded of a result said once more. Nothing here needs
+//! the library under test.
 
 pub mod damage;
 pub mod demand;
 pub mod demand09;
+pub mod event_logs;
 pub mod lists;
 pub mod lists09;
 pub mod model;
@@ -17,3 +18,5 @@ pub mod tally;
 mod examples;
 #[cfg(test)]
 mod examples09;
+#[cfg(test)]
+mod examples_event_log;

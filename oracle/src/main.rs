@@ -1,11 +1,12 @@
-//! Compares libtransfer_list.a with the model of document 01 and of document 02, request 1, on many
-//! lists.
+//! Compares libtransfer_list.a with the model of document 01 and of document 02, requests 1 and 2, on
+//! many lists.
 //!
 //! `oracle [LISTS [SEED]]`; the list after that of seed S is the one of seed S + 1.
 
 mod calls09;
 mod compare;
 mod edges09;
+mod edges_event_log;
 mod edits;
 mod huge;
 mod huge09;
@@ -57,10 +58,11 @@ fn run(lists: u64, seed: u64) -> Result<(), String> {
         one_list(&mut bench, seed.wrapping_add(index)).map_err(|report| format!("list {index}: {report}"))?;
     }
     bench.edges09()?;
+    bench.edges_event_log()?;
     bench.huge_lengths()?;
     bench.huge_lengths09()?;
-    println!("{}", bench.tally.table());
-    let unseen = bench.tally.unseen();
+    println!("{}\n{}", bench.tally.table(), bench.event_logs.table());
+    let unseen = [bench.tally.unseen(), bench.event_logs.unseen()].concat();
     if !unseen.is_empty() {
         return Err(unseen.join("\n"));
     }

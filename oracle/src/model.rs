@@ -1,8 +1,11 @@
-//! The seven jobs of document 01, each sentence written down plainly. The checks 1 to 8, check and
-//! find serve lists of edition 0.9 too (document 02, request 1); `model09` has what is theirs alone.
+//! The seven jobs of document 01, each sentence written down plainly; the tag table as document 02,
+//! request 2, amends it. The checks 1 to 8, check and find serve lists of edition 0.9 too (document 02,
+//! request 1); `model09` has what is theirs alone.
 //!
 //! "All sums here are whole-number sums; none wraps": every sum is made in u128, where the largest
 //! address and the largest length together stay far below the limit.
+
+use std::ops::RangeInclusive;
 
 // The numbers of "When a call is turned away".
 pub const AREA: u32 = 1;
@@ -121,6 +124,7 @@ const NEW_ALIGNMENT: u8 = 3;
 const TE_HDR_SIZE: u8 = 8;
 
 const VOID_TAG: u32 = 0;
+pub const EVENT_LOG_TAG: u32 = 5;
 const HAS_CHECKSUM: u32 = 1;
 
 pub fn align8(x: u128) -> u128 {
@@ -352,19 +356,21 @@ fn check_new_tag(tag: u32) -> Result<(), u32> {
     refuse_if((0x80_0000..=0xff_efff).contains(&tag), TAG)
 }
 
-/// "What a known tag may carry"; "a tag not listed may carry any length".
-pub fn fixed_length(tag: u32) -> Option<usize> {
+/// "What a known tag may carry"; "a tag not listed may carry any length". Document 02, request 2, for
+/// tag 5: "a length under 4 is SHAPE from now on; 4 is accepted".
+pub fn lengths(tag: u32) -> RangeInclusive<usize> {
     match tag {
-        6 => Some(12),
-        0x100 => Some(8),
-        0x104 => Some(16),
-        _ => None,
+        EVENT_LOG_TAG => 4..=usize::MAX,
+        6 => 12..=12,
+        0x100 => 8..=8,
+        0x104 => 16..=16,
+        _ => 0..=usize::MAX,
     }
 }
 
 /// SHAPE: "an add's data length breaks the tag table".
 fn check_shape(tag: u32, data: &[u8]) -> Result<(), u32> {
-    refuse_if(fixed_length(tag).is_some_and(|length| length != data.len()), SHAPE)
+    refuse_if(!lengths(tag).contains(&data.len()), SHAPE)
 }
 
 fn put_entry_header(area: &mut [u8], place: u128, tag_id: u32, data_size: u128) {

@@ -3,7 +3,7 @@
 //! address space.
 
 use crate::lists::{self, good_exponent, List};
-use crate::model::{self, field, ADDRESS_END};
+use crate::model::{self, field, ADDRESS_END, EVENT_LOG_TAG};
 use crate::rng::Rng;
 
 /// No data longer than this is lent; it is more than any area holds.
@@ -100,12 +100,15 @@ pub fn new_tag(rng: &mut Rng) -> u32 {
     }
 }
 
-/// A data length for an add. `padding` is what an aligned add puts in front of the entry.
+/// A data length for an add. `padding` is what an aligned add puts in front of the entry. Half of the
+/// event logs have a length around the least.
 pub fn data_len(rng: &mut Rng, facts: &Facts, tag: u32, padding: i64) -> usize {
-    if let Some(length) = model::fixed_length(tag) {
-        if !rng.once_in(4) {
-            return length;
-        }
+    if tag == EVENT_LOG_TAG && rng.once_in(2) {
+        return rng.below(6) as usize;
+    }
+    let allowed = model::lengths(tag);
+    if allowed.start() == allowed.end() && !rng.once_in(4) {
+        return *allowed.start();
     }
     let length = match rng.below(12) {
         0..=3 if !facts.void_sizes.is_empty() => {

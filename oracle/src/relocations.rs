@@ -24,7 +24,7 @@ impl Bench {
         Ok(())
     }
 
-    fn relocate(&mut self, list: &List, bytes: &[u8], target_base: u64) -> Result<(), String> {
+    pub fn relocate(&mut self, list: &List, bytes: &[u8], target_base: u64) -> Result<(), String> {
         let mut area = self.guards.lend(&list.area);
         let mut target = self.guards.lend(bytes);
         let mut after = bytes.to_vec();

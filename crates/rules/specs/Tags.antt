@@ -1,4 +1,4 @@
--- Document 01, "What a known tag may carry": the tag table, which only the two adds use (refusal 10).
+-- Document 01, "What a known tag may carry", as amended by request 2: the tag table, which only the two adds use (refusal 10).
 use Prim.Native.Nat.{ℕ}
 use mathlib.Core.Bool.{Bool, false, _||_, cond}
 use mathlib.Core.List.{List, [], _∷_}
@@ -15,18 +15,24 @@ pub record TagRow : Type 0 where
 abbrev any : ℕ → TagRow
 any tag = record { tag = tag; least = 0; most = none }
 
+-- a tag that carries n bytes or more
+abbrev atLeast : ℕ → ℕ → TagRow
+atLeast n tag = record { tag = tag; least = n; most = none }
+
 -- a tag that carries exactly n bytes
 abbrev exactly : ℕ → ℕ → TagRow
 exactly n tag = record { tag = tag; least = n; most = some n }
 
 -- FDT, HOB block, HOB list, ACPI, TPM event log, TPM CRB base; OP-TEE pageable part, SPMC manifest, entry point, memory layout
+-- TPM event log as amended by request 2: "Source document 001 puts a 4-byte flags word ahead of the log and counts it in data_size. So
+-- a length under 4 is SHAPE from now on; 4 is accepted. Both adds read the new row."
 unfoldable pub tagTable : List TagRow
 tagTable =
     any 1
     ∷ any 2
     ∷ any 3
     ∷ any 4
-    ∷ any 5
+    ∷ atLeast 4 5
     ∷ exactly 12 6
     ∷ exactly 8 0x100
     ∷ any 0x101

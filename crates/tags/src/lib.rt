@@ -13,7 +13,7 @@ pub(crate) struct TagRow {
 // No length that a slice can have is greater.
 const ANY: usize = 0xffff_ffff_ffff_ffff;
 
-// Document 01's table, row by row.
+// Document 01's table, as amended by request 2 (tag 5), row by row.
 const TAG_TABLE: [TagRow; 10] = [
     TagRow {
         tag: 1,
@@ -37,7 +37,7 @@ const TAG_TABLE: [TagRow; 10] = [
     },
     TagRow {
         tag: 5,
-        least: 0,
+        least: 4,
         most: ANY,
     },
     TagRow {

@@ -1,6 +1,6 @@
-// Runs the paper's examples A to N, and examples of edition 0.9, on real bytes and prints what the functions answer and leave; the file
-// stdout holds what the papers' rules give. A line: the example, the call, the answer's numbers, and the bytes: of a find the data, of create and
-// an edit the whole area or target, of two large areas the first 24 bytes.
+// Runs the paper's examples A to N, and examples of edition 0.9 and of the event log's length, on real bytes and prints what the
+// functions answer and leave; the file stdout holds what the papers' rules give. A line: the example, the call, the answer's numbers, and
+// the bytes: of a find the data, of create and an edit the whole area or target, of two large areas the first 24 bytes.
 use rules::CheckAnswer;
 use rules::Done;
 use rules::FindAnswer;
@@ -290,6 +290,30 @@ fn conversions_09() {
     show_convert09_to_63(b"09 no room convert", twelve, 0, 0xff0);
 }
 
+// ---- The event log's length (document 02, request 2). The examples are our own.
+
+// Data by either add, each into a new list of 48 bytes.
+fn event_log(example: &[u8], data: &[u8]) {
+    let mut area = [0u8; 48];
+    create::create(&mut area, 0x1000, true);
+    let added = edit::edits::add(&mut area, 0x1000, 5, data, false);
+    io::write_all(1, example);
+    show_done(b" add", added, &area);
+    let mut other = [0u8; 48];
+    create::create(&mut other, 0x1000, true);
+    let aligned = edit::edits::add_aligned(&mut other, 0x1000, 5, data, 4);
+    io::write_all(1, example);
+    show_done(b" add aligned", aligned, &other);
+}
+
+// A list made elsewhere whose event log has 3 bytes is read.
+fn short_event_log() {
+    let list =
+        b"\x0b\xb1\x0f\x4a\xea\x01\x18\x03\x28\0\0\0\x28\0\0\0\x01\0\0\0\0\0\0\0\x05\0\0\x08\x03\0\0\0\x01\x02\x03\0\0\0\0\0";
+    show_check(b"short event log", list, 0x1000);
+    show_find(b"short event log", list, 0x1000, 5, 0);
+}
+
 fn main() {
     examples_a_to_d();
     example_e(b"0123456789abcdefg");
@@ -309,4 +333,9 @@ fn main() {
     example_n();
     examples_09();
     conversions_09();
+    event_log(b"event log of 0", b"");
+    event_log(b"event log of 3", b"\x01\0\0");
+    event_log(b"event log of 4", b"\x01\0\0\0");
+    event_log(b"event log of 5", b"\x01\0\0\0\x5a");
+    short_event_log();
 }
