@@ -2,7 +2,7 @@
  * The paper's examples A to N (it has no L) and every refusal, through the header alone. For each call every field of the answer is
  * printed, how many bytes changed, and the bytes where any did. `make ctest` compares this with answers.expected, which was worked out
  * from the paper and not with this library. The examples of edition 0.9 are our own, since source 000 has none, and so are those of
- * document 02, request 2.
+ * document 02, requests 2 and 3.
  */
 #include <inttypes.h>
 #include <stdio.h>
@@ -132,6 +132,13 @@ static void strike(uint32_t tag, uint64_t n)
     show_done(tl_void(area.now, len, base, tag, n));
 }
 
+static void tidy(void)
+{
+    printf("tl_tidy: %zu bytes at 0x%" PRIx64 "\n", len, base);
+    keep();
+    show_done(tl_tidy(len == 0 ? NULL : area.now, len, base));
+}
+
 static void relocate(size_t target_len, uint64_t target_base)
 {
     memset(target.now, 0xee, SPACE);
@@ -172,6 +179,26 @@ static void put(size_t at, size_t n, uint8_t byte)
     memset(area.now + at, byte, n);
 }
 
+/* Not a call: n voids without data. */
+static void put_voids(size_t at, size_t n)
+{
+    printf("by hand: %zu voids without data from %zu on\n", n, at);
+    memset(area.now + at, 0, 8 * n);
+    for (size_t i = 0; i < n; i++)
+        area.now[at + 8 * i + 3] = 8;
+}
+
+/* Not a call: a list made elsewhere. Every further byte of the area is ee. */
+static void list(const char *what, const uint8_t *bytes, size_t n, size_t new_len, uint64_t new_base)
+{
+    len = new_len;
+    base = new_base;
+    memset(area.now, 0xee, SPACE);
+    memcpy(area.now, bytes, n);
+    printf("by hand: %s, %zu bytes at 0x%" PRIx64 ", the first %zu of them\n", what, len, base, n);
+    show_hex(area.now, n);
+}
+
 /* Each call but create, on the list as it is. */
 static void every_call(void)
 {
@@ -180,6 +207,7 @@ static void every_call(void)
     add(1, 3, false);
     add_aligned(4, 4, 4);
     strike(1, 0);
+    tidy();
     relocate(128, 0x2000);
 }
 
@@ -339,15 +367,10 @@ static const uint8_t version_2[48] = {0xff, 0xd0, 0x6e, 0x00, 0x16, 0x02, 0x18, 
 static const uint8_t full[24] = {0xff, 0xd0, 0x6e, 0x00, 0xd3, 0x01, 0x10, 0x03, 0x00, 0x00, 0x01, 0x00,
                                  0x00, 0x00, 0x01, 0x00, 0x01, 0x00, 0x00, 0x08, 0xe8, 0xff, 0x00, 0x00};
 
-/* Not a call: a list of edition 0.9, since the library makes none. Every further byte of the area is ee. */
+/* Not a call: a list of edition 0.9, since the library makes none. */
 static void list09(const uint8_t *bytes, size_t n, size_t new_len, uint64_t new_base)
 {
-    len = new_len;
-    base = new_base;
-    memset(area.now, 0xee, SPACE);
-    memcpy(area.now, bytes, n);
-    printf("by hand: a list of edition 0.9, %zu bytes at 0x%" PRIx64 ", the first %zu of them\n", len, base, n);
-    show_hex(area.now, n);
+    list("a list of edition 0.9", bytes, n, new_len, new_base);
 }
 
 /* Not a call: the area is now the target from the shift on, where a conversion has put its list. */
@@ -612,6 +635,227 @@ static void event_logs(void)
     strike(5, 0);
 }
 
+/* Lists to be tidied. Voids' data and padding are not 0. */
+
+/* tags 1 to 5 with eight bytes each; total_size 112 */
+static const uint8_t five[104] = {0x0b, 0xb1, 0x0f, 0x4a, 0xf5, 0x01, 0x18, 0x03, 0x68, 0x00, 0x00, 0x00, 0x70, 0x00, 0x00, 0x00,
+                                  0x01, 0x00, 0x00, 0x00, 0x00, 0x00, 0x00, 0x00, 0x01, 0x00, 0x00, 0x08, 0x08, 0x00, 0x00, 0x00,
+                                  0x11, 0x12, 0x13, 0x14, 0x15, 0x16, 0x17, 0x18, 0x02, 0x00, 0x00, 0x08, 0x08, 0x00, 0x00, 0x00,
+                                  0x21, 0x22, 0x23, 0x24, 0x25, 0x26, 0x27, 0x28, 0x03, 0x00, 0x00, 0x08, 0x08, 0x00, 0x00, 0x00,
+                                  0x31, 0x32, 0x33, 0x34, 0x35, 0x36, 0x37, 0x38, 0x04, 0x00, 0x00, 0x08, 0x08, 0x00, 0x00, 0x00,
+                                  0x41, 0x42, 0x43, 0x44, 0x45, 0x46, 0x47, 0x48, 0x05, 0x00, 0x00, 0x08, 0x08, 0x00, 0x00, 0x00,
+                                  0x51, 0x52, 0x53, 0x54, 0x55, 0x56, 0x57, 0x58};
+
+/*
+ * A void of 8 and one of 0; tag 1 with three bytes; voids of 0, 8 and 0; tag 0x800000 with eight bytes; a void of 0 and one of 8.
+ * Two of the voids have data that look like an entry. Alignment 12, total_size 144, flags 0x80000003, reserved 0x5a5a5a5a.
+ */
+static const uint8_t mixed[136] = {0x0b, 0xb1, 0x0f, 0x4a, 0x79, 0x01, 0x18, 0x0c, 0x88, 0x00, 0x00, 0x00, 0x90, 0x00, 0x00, 0x00,
+                                   0x03, 0x00, 0x00, 0x80, 0x5a, 0x5a, 0x5a, 0x5a, 0x00, 0x00, 0x00, 0x08, 0x08, 0x00, 0x00, 0x00,
+                                   0x51, 0x5a, 0x5a, 0x5a, 0x5a, 0x5a, 0x5a, 0x5a, 0x00, 0x00, 0x00, 0x08, 0x00, 0x00, 0x00, 0x00,
+                                   0x01, 0x00, 0x00, 0x08, 0x03, 0x00, 0x00, 0x00, 0xaa, 0xbb, 0xcc, 0x5a, 0x5a, 0x5a, 0x5a, 0x5a,
+                                   0x00, 0x00, 0x00, 0x08, 0x00, 0x00, 0x00, 0x00, 0x00, 0x00, 0x00, 0x08, 0x08, 0x00, 0x00, 0x00,
+                                   0x01, 0x00, 0x00, 0x08, 0x00, 0x00, 0x00, 0x00, 0x00, 0x00, 0x00, 0x08, 0x00, 0x00, 0x00, 0x00,
+                                   0x00, 0x00, 0x80, 0x08, 0x08, 0x00, 0x00, 0x00, 0x77, 0x77, 0x77, 0x77, 0x77, 0x77, 0x77, 0x77,
+                                   0x00, 0x00, 0x00, 0x08, 0x00, 0x00, 0x00, 0x00, 0x00, 0x00, 0x00, 0x08, 0x08, 0x00, 0x00, 0x00,
+                                   0x07, 0x00, 0x00, 0x08, 0x08, 0x00, 0x00, 0x00};
+
+/* three voids, tag 0x100, a void, tag 6, two voids, all without data; total_size 88 */
+static const uint8_t no_data[88] = {0x0b, 0xb1, 0x0f, 0x4a, 0xe3, 0x01, 0x18, 0x03, 0x58, 0x00, 0x00, 0x00, 0x58, 0x00, 0x00, 0x00,
+                                    0x01, 0x00, 0x00, 0x00, 0x00, 0x00, 0x00, 0x00, 0x00, 0x00, 0x00, 0x08, 0x00, 0x00, 0x00, 0x00,
+                                    0x00, 0x00, 0x00, 0x08, 0x00, 0x00, 0x00, 0x00, 0x00, 0x00, 0x00, 0x08, 0x00, 0x00, 0x00, 0x00,
+                                    0x00, 0x01, 0x00, 0x08, 0x00, 0x00, 0x00, 0x00, 0x00, 0x00, 0x00, 0x08, 0x00, 0x00, 0x00, 0x00,
+                                    0x06, 0x00, 0x00, 0x08, 0x00, 0x00, 0x00, 0x00, 0x00, 0x00, 0x00, 0x08, 0x00, 0x00, 0x00, 0x00,
+                                    0x00, 0x00, 0x00, 0x08, 0x00, 0x00, 0x00, 0x00};
+
+/* Of the five entries those named are made voids, whose data stay. The list is tidied twice. */
+static void tidy_five(const char *voids, uint8_t checksum)
+{
+    list("a list", five, sizeof five, 117, 0x1000);
+    for (const char *v = voids; *v != '\0'; v++)
+        put(24 + 16 * (size_t)(*v - '1'), 1, 0);
+    put(4, 1, checksum);
+    tidy();
+    tidy();
+    check();
+}
+
+static void tidy_runs(void)
+{
+    title("tidy: five entries, no voids: nothing changes, and the answer is used_size");
+    tidy_five("", 0xf5);
+    title("tidy: a void at the start; two");
+    tidy_five("1", 0xf4);
+    tidy_five("12", 0xf6);
+    title("tidy: a void in the middle, whose data and checksum change though there is nothing to join; two; three");
+    tidy_five("3", 0xf6);
+    tidy_five("23", 0xf4);
+    tidy_five("234", 0xf0);
+    title("tidy: a void at the end, which is given back; two");
+    tidy_five("5", 0xf0);
+    tidy_five("45", 0xf4);
+    title("tidy: a void at the start, in the middle and at the end; two at the start and two at the end");
+    tidy_five("135", 0xf2);
+    tidy_five("1245", 0xf7);
+    title("tidy: nothing but voids");
+    tidy_five("12345", 0xf4);
+    title("tidy: voids without data count; one of them alone stays");
+    list("a list", no_data, sizeof no_data, 88, 0x1000);
+    check();
+    tidy();
+    tidy();
+    check();
+    title("tidy: no entries; the bytes behind used_size stay");
+    create(64, 0x1000, true);
+    tidy();
+    put(24, 40, 0xee);
+    tidy();
+    create(25, 0x1000, false);
+    tidy();
+}
+
+static void tidy_kept(void)
+{
+    title("tidy: offsets, padding, alignment, flags, reserved and the bytes behind used_size stay; the tags are not judged");
+    list("a list", mixed, sizeof mixed, 150, 0x1000);
+    check();
+    tidy();
+    check();
+    find(1, 0);
+    find(1, 1);
+    find(0x800000, 0);
+    tidy();
+    title("tidy: without has_checksum the checksum byte is 0");
+    list("a list", mixed, sizeof mixed, 150, 0x1000);
+    put(4, 1, 0);
+    put(16, 1, 2);
+    tidy();
+    check();
+    title("tidy: the padding void of an aligned entry stays with the entry; the alignment stays without it");
+    create(128, 0x1000, true);
+    add_aligned(4, 4, 6);
+    tidy();
+    strike(4, 0);
+    tidy();
+    check();
+    title("tidy: 65,536 bytes that end at 2^48: nothing but voids; before an entry they become one void of 65,496");
+    create(65536, TOP - 65536, true);
+    put_voids(24, 8189);
+    put(8, 1, 0x00);
+    put(10, 1, 0x01);
+    put(4, 1, 0xec);
+    check();
+    tidy();
+    check();
+    put_voids(24, 8189);
+    put(8, 1, 0x00);
+    put(10, 1, 0x01);
+    put(65528, 1, 1);
+    put(4, 1, 0xed);
+    check();
+    tidy();
+    check();
+    find(1, 0);
+}
+
+static void tidy_for_room(void)
+{
+    title("tidy: three voids without data are ROOM for one byte; as one void they take 16 bytes, and not 17");
+    create(72, 0x1000, true);
+    add(1, 0, false);
+    add(1, 0, false);
+    add(1, 0, false);
+    add(2, 16, false);
+    strike(1, 0);
+    strike(1, 0);
+    strike(1, 0);
+    add(3, 1, true);
+    add(3, 16, true);
+    tidy();
+    add(3, 17, true);
+    add(3, 16, false);
+    add(3, 16, true);
+    tidy();
+    check();
+    title("tidy: the voids at the end become room for adds that use none");
+    create(72, 0x1000, true);
+    add(1, 8, false);
+    add(2, 8, false);
+    add(2, 8, false);
+    strike(2, 0);
+    strike(2, 0);
+    add(3, 8, false);
+    add_aligned(3, 8, 4);
+    tidy();
+    add_aligned(3, 8, 4);
+    add(3, 8, false);
+    check();
+}
+
+static void tidy_refusals(void)
+{
+    title("tidy, 8 ENTRY: a void of 4; 7, 6, 5, 4, 3, 2 and 1 each come before it, the lower number first");
+    list("a list", mixed, sizeof mixed, 150, 0x1000);
+    put(76, 1, 4);
+    put(4, 1, 0x75);
+    tidy();
+    put(4, 1, 0x74);
+    tidy();
+    put(7, 1, 2);
+    tidy();
+    put(5, 1, 2);
+    tidy();
+    put(5, 1, 0);
+    tidy();
+    put(0, 1, 0x0a);
+    tidy();
+    len = 23;
+    tidy();
+    base = 0x1004;
+    tidy();
+    title("tidy without an area: 1 AREA where the base is no multiple of 8, else 2 SHORT; too long, 1 AREA");
+    len = 0;
+    tidy();
+    base = 0x1000;
+    tidy();
+    len = 65537;
+    tidy();
+    title("tidy, 1 AREA: an area may end 2 bytes below 2^48, and not 6 bytes above");
+    list("a list", mixed, sizeof mixed, 150, TOP - 144);
+    tidy();
+    base = TOP - 152;
+    tidy();
+    title("tidy, 5 READONLY: version 2 can be read");
+    list("a list", mixed, sizeof mixed, 150, 0x1000);
+    put(5, 1, 2);
+    put(4, 1, 0x7a);
+    check();
+    tidy();
+    title("tidy, 6 SIZES: the area is too short for total_size; used_size 16");
+    list("a list", mixed, sizeof mixed, 143, 0x1000);
+    tidy();
+    len = 144;
+    put(8, 1, 16);
+    tidy();
+    title("tidy, 7 CHECKSUM: without has_checksum the checksum byte is not 0");
+    list("a list", mixed, sizeof mixed, 150, 0x1000);
+    put(16, 1, 2);
+    tidy();
+    title("tidy, 8 ENTRY: the last void exceeds used_size; its data_size is 0xfffffff8; a live entry's hdr_size is 9");
+    list("a list", mixed, sizeof mixed, 150, 0x1000);
+    put(124, 1, 16);
+    put(4, 1, 0x61);
+    tidy();
+    put(124, 1, 0xf8);
+    put(125, 3, 0xff);
+    put(4, 1, 0x76);
+    tidy();
+    list("a list", mixed, sizeof mixed, 150, 0x1000);
+    put(51, 1, 9);
+    put(4, 1, 0x78);
+    tidy();
+}
+
 int main(void)
 {
     examples_a_to_h();
@@ -621,5 +865,9 @@ int main(void)
     refusals_09();
     conversions_09();
     event_logs();
+    tidy_runs();
+    tidy_kept();
+    tidy_for_room();
+    tidy_refusals();
     return 0;
 }

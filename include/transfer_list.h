@@ -1,5 +1,5 @@
 /*
- * transfer_list.h: transfer lists of the Firmware Handoff specification: check, find, create, add, void, relocate.
+ * transfer_list.h: transfer lists of the Firmware Handoff specification: check, find, create, add, void, tidy, relocate.
  * Of lists still in its edition 0.9: check, find, convert into a current list.
  *
  * Every function takes any bytes at any stated address, of any size. It ends, reads and writes only the memory that it is lent, and
@@ -197,6 +197,25 @@ tl_done tl_add_aligned(uint8_t *area, size_t len, uint64_t base, uint32_t tag, c
  *	TL_NONE, the list has no such occurrence of the tag
  */
 tl_done tl_void(uint8_t *area, size_t len, uint64_t base, uint32_t tag, uint64_t n);
+
+/**
+ * tl_tidy - join neighbouring voids and give back those at the end
+ * @area: the bytes of the area that holds the list
+ * @len: the number of bytes of the area
+ * @base: the address at which the area stands
+ *
+ * tl_tidy() checks the list, and then makes each run of neighbouring voids one void over the same bytes, its data 0; one void alone is a
+ * run. The run at the end is given back instead: used_size becomes the end of the last entry that is not a void, or 24 where there is
+ * none, and the bytes given back become 0. The other entries stay where they are, padding included; alignment, total_size, flags, the
+ * reserved word and the bytes behind the old used_size stay as they are. The checksum byte is put right. Tidying again changes nothing.
+ * An add that was refused with TL_ROOM is then accepted if a joined void serves it, where it may use voids, or if it fits behind the new
+ * used_size.
+ *
+ * returns:
+ *	number 0, and the new used_size
+ *	each refusal of tl_check(), and TL_READONLY as in tl_add()
+ */
+tl_done tl_tidy(uint8_t *area, size_t len, uint64_t base);
 
 /**
  * tl_relocate - move a list to another area

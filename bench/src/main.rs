@@ -10,6 +10,7 @@ extern "C" {
     fn tl_find(area: *const u8, len: usize, base: u64, tag: u32, n: u64) -> Found;
     fn tl_add(area: *mut u8, len: usize, base: u64, tag: u32, data: *const u8, n: usize, voids: bool) -> Done;
     fn tl_void(area: *mut u8, len: usize, base: u64, tag: u32, n: u64) -> Done;
+    fn tl_tidy(area: *mut u8, len: usize, base: u64) -> Done;
     fn tl09_check(area: *const u8, len: usize, base: u64) -> Checked;
     fn tl09_convert(area: *const u8, len: usize, base: u64, target: *mut u8, target_len: usize, target_base: u64) -> Done;
 }
@@ -34,6 +35,10 @@ fn library_add(area: &mut [u8], voids: bool) -> Done {
 
 fn library_void(area: &mut [u8]) -> Done {
     unsafe { tl_void(area.as_mut_ptr(), area.len(), BASE, LAST, 0) }
+}
+
+fn library_tidy(area: &mut [u8]) -> Done {
+    unsafe { tl_tidy(area.as_mut_ptr(), area.len(), BASE) }
 }
 
 fn library_check09(area: &[u8]) -> Checked {
@@ -83,6 +88,17 @@ fn put_entries(a: &mut [u8], first: usize, entries: impl IntoIterator<Item = (u3
     at
 }
 
+/// A full list of entries of 16 bytes, one of 8 behind them. Every second one is a void, whose data are not 0.
+fn every_second_void() -> Vec<u8> {
+    let mut a = list((0..4094).map(|_| (1, 8)).chain([(1, 0)]));
+    for at in (24..LENGTH - 8).step_by(32) {
+        a[at] = 0;
+    }
+    a[4] = 0;
+    a[4] = a.iter().fold(0, |x, b| x ^ b);
+    a
+}
+
 /// The least time of a call in nanoseconds, over rounds of calls that take turns.
 fn least(rounds: usize, calls: usize, mut library: impl FnMut(), mut plain: impl FnMut()) -> (f64, f64) {
     let mut best = (f64::MAX, f64::MAX);
@@ -126,11 +142,12 @@ fn time_check(what: &str, area: &[u8]) {
     time_reading(what, area, library_check, |a| plain::check(a, BASE, false));
 }
 
-/// Times an edit. Each call is followed by putting back the header and the last 256 bytes, which is all that these edits change.
-fn time_edit(what: &str, area: &[u8], library: impl Fn(&mut [u8]) -> Done, plain: impl Fn(&mut [u8]) -> Done) {
+/// Times an edit. Each call is followed by putting back the header and the last bytes, which are all that the edit changes. The time for
+/// that is counted on both sides.
+fn time_edit(what: &str, area: &[u8], last: usize, library: impl Fn(&mut [u8]) -> Done, plain: impl Fn(&mut [u8]) -> Done) {
     let put_back = |a: &mut Vec<u8>| {
         a[..24].copy_from_slice(&area[..24]);
-        a[LENGTH - 256..].copy_from_slice(&area[LENGTH - 256..]);
+        a[LENGTH - last..].copy_from_slice(&area[LENGTH - last..]);
     };
     let (mut one, mut other) = (area.to_vec(), area.to_vec());
     assert_eq!(plain(&mut other).number, 0, "{what}");
@@ -152,6 +169,11 @@ fn time_edit(what: &str, area: &[u8], library: impl Fn(&mut [u8]) -> Done, plain
         },
     );
     report(what, times);
+}
+
+/// Times tidying, after which the whole list is put back.
+fn time_tidy(what: &str, area: &[u8]) {
+    time_edit(what, area, LENGTH - 24, library_tidy, |a| plain::tidy(a, BASE));
 }
 
 /// Times a conversion into a target of 65,536 bytes.
@@ -185,12 +207,14 @@ fn main() {
     time_edit(
         "add 64 bytes at the tail, entries of 32 bytes",
         &list(rows.clone()),
+        256,
         |a| library_add(a, false),
         |a| plain::add(a, BASE, LAST, &DATA, false),
     );
     time_edit(
         "void the last entry, entries of 32 bytes",
         &list(rows.chain([(LAST, 64)])),
+        256,
         library_void,
         |a| plain::void(a, BASE, LAST, 0),
     );
@@ -199,9 +223,12 @@ fn main() {
     time_edit(
         "add 64 bytes into the last of many voids",
         &list(voids),
+        256,
         |a| library_add(a, true),
         |a| plain::add(a, BASE, LAST, &DATA, true),
     );
+    time_tidy("tidy, 65,536 bytes, voids of 8 bytes", &list((0..(LENGTH - 24) / 8).map(|_| (0, 0))));
+    time_tidy("tidy, 65,536 bytes, every second entry a void", &every_second_void());
     let old = list09([(1, LENGTH - 24)]);
     assert_eq!(library_check09(&old).number, 0);
     time_reading("edition 0.9: check, 65,536 bytes, one entry", &old, library_check09, |a| plain::check09(a, BASE, false));

@@ -245,6 +245,37 @@ pub fn void(area: &mut [u8], base: u64, tag: u32, n: u64) -> Done {
     Done { number: 0, value: at as u32 }
 }
 
+/// Tidy, with the same answers and bytes as the library's.
+#[inline(never)]
+pub fn tidy(area: &mut [u8], base: u64) -> Done {
+    let c = check(area, base, true);
+    if c.number != 0 {
+        return refused_edit(c.number);
+    }
+    let list = &mut area[..c.used as usize];
+    // the voids from `end`, the end of the last live entry so far, to `at`
+    let (mut end, mut at) = (24, 24);
+    while at < list.len() {
+        let head = u64::from_le_bytes(list[at..at + 8].try_into().unwrap());
+        let next = at + align8(8 + (head >> 32)) as usize;
+        if head & 0xff_ffff != 0 {
+            if end < at {
+                put_header(list, end, 0, at - end - 8);
+                list[end + 8..at].fill(0);
+            }
+            end = next;
+        }
+        at = next;
+    }
+    list[end..].fill(0);
+    list[8..12].copy_from_slice(&(end as u32).to_le_bytes());
+    list[4] = 0;
+    if list[16] & 1 == 1 {
+        list[4] = xor(&list[..end]);
+    }
+    Done { number: 0, value: end as u32 }
+}
+
 /// Conversion from edition 0.9, with the same answers and bytes as the library's.
 #[inline(never)]
 pub fn convert09(area: &[u8], base: u64, target: &mut [u8], target_base: u64) -> Done {

@@ -8,10 +8,12 @@ use oracle::lists::List;
 use oracle::model::{self, Answer, Edition};
 use oracle::params::{self, Facts};
 use oracle::rng::Rng;
+use oracle::runs::Runs;
 use oracle::tally::{Call, Tally};
 use std::fmt::Write;
 
-/// How often each call is made on a list; a check and a create once.
+/// How often each call is made on a list; a check, a create and a tidy once. A tidy is made once more on
+/// its own result, with up to two adds before and after it.
 pub struct Times {
     pub finds: usize,
     pub adds: usize,
@@ -29,6 +31,7 @@ const OTHER: Times = Times { finds: 1, adds: 1, aligned_adds: 1, voids: 1, reloc
 pub struct Bench {
     pub tally: Tally,
     pub event_logs: EventLogs,
+    pub runs: Runs,
     pub guards: Guards,
 }
 
@@ -48,7 +51,12 @@ pub struct Buffer<'a> {
 
 impl Bench {
     pub fn new(seed: u64) -> Bench {
-        Bench { tally: Tally::default(), event_logs: EventLogs::default(), guards: Guards::new(seed) }
+        Bench {
+            tally: Tally::default(),
+            event_logs: EventLogs::default(),
+            runs: Runs::default(),
+            guards: Guards::new(seed),
+        }
     }
 
     /// All calls on one list, those of the other edition too.
@@ -69,7 +77,9 @@ impl Bench {
             self.find(list, tag, n)?;
         }
         self.edits(rng, list, &facts, times)?;
-        self.relocations(rng, list, &facts, times)
+        self.relocations(rng, list, &facts, times)?;
+        self.tidy(list)?;
+        Ok(())
     }
 
     pub fn check(&mut self, list: &List) -> Result<(), String> {
@@ -114,7 +124,7 @@ impl Bench {
 }
 
 impl Asked<'_> {
-    /// A report where the model itself does not keep what is demanded.
+    /// A report where a result does not keep what is demanded.
     pub fn demand(&self, held: Result<(), String>, buffers: &[Buffer]) -> Result<(), String> {
         held.map_err(|broken| format!("{}\n  {broken}", self.with_inputs(buffers)))
     }

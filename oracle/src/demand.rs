@@ -27,10 +27,10 @@ type Reading<'a> = Vec<(u32, &'a [u8])>;
 
 /// One entry of a walk, live or void.
 pub(crate) struct Step<'a> {
-    place: usize,
-    tag: u32,
-    data_offset: usize,
-    data: &'a [u8],
+    pub(crate) place: usize,
+    pub(crate) tag: u32,
+    pub(crate) data_offset: usize,
+    pub(crate) data: &'a [u8],
 }
 
 pub(crate) fn number(bytes: &[u8]) -> usize {
@@ -77,7 +77,7 @@ pub(crate) fn demand(holds: bool, what: &str) -> Result<(), String> {
     if holds {
         Ok(())
     } else {
-        Err(format!("the model breaks what is demanded: {what}"))
+        Err(format!("a demand is broken: {what}"))
     }
 }
 

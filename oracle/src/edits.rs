@@ -48,8 +48,8 @@ impl Bench {
         Ok(())
     }
 
-    /// An add, an aligned add or a void on a list.
-    pub fn edit(&mut self, list: &List, edit: &Edit) -> Result<(), String> {
+    /// An add, an aligned add or a void on a list; the answer that both gave.
+    pub fn edit(&mut self, list: &List, edit: &Edit) -> Result<Done, String> {
         let call = call_of(edit);
         let mut area = self.guards.lend(&list.area);
         let mut data = self.guards.lend(data_of(edit));
@@ -68,7 +68,7 @@ impl Bench {
             let held = demand::after_edit(&list.area, &after, list.base, edit, wanted.value);
             asked.demand(held, &buffers)?;
         }
-        Ok(())
+        Ok(wanted)
     }
 }
 

@@ -6,6 +6,7 @@ use crate::compare::{Asked, Bench};
 use crate::lent::Lent;
 use crate::library;
 use oracle::model;
+use oracle::model_tidy;
 use oracle::tally::Call;
 
 pub const BASE: u64 = 0x1000;
@@ -77,7 +78,10 @@ impl Bench {
         self.judge(&asked(Call::AddAligned), wanted, given, &[untouched("data", &bytes, &data)])?;
         let wanted = model::void(huge.bytes(), BASE, TAG, 0);
         let given = library::void(huge, BASE, TAG, 0);
-        self.judge(&asked(Call::Void), wanted, given, &[])
+        self.judge(&asked(Call::Void), wanted, given, &[])?;
+        let wanted = model_tidy::tidy(huge.bytes(), BASE);
+        let given = library::tidy(huge, BASE);
+        self.judge(&asked(Call::Tidy), wanted, given, &[])
     }
 
     /// Data whose length, cut to 32 bits, would fit the list and the tag table, or that only then

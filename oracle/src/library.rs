@@ -18,6 +18,7 @@ extern "C" {
     fn tl_void(area: *mut u8, len: usize, base: u64, tag: u32, n: u64) -> Done;
     fn tl_relocate(area: *const u8, len: usize, base: u64,
                    target: *mut u8, target_len: usize, target_base: u64) -> Done;
+    fn tl_tidy(area: *mut u8, len: usize, base: u64) -> Done;
     fn tl09_check(area: *const u8, len: usize, base: u64) -> Checked;
     fn tl09_find(area: *const u8, len: usize, base: u64, tag: u32, n: u64) -> Found;
     fn tl09_convert(area: *const u8, len: usize, base: u64,
@@ -60,6 +61,11 @@ pub fn void(area: &mut Lent, base: u64, tag: u32, n: u64) -> Done {
 pub fn relocate(area: &mut Lent, base: u64, target: &mut Lent, target_base: u64) -> Done {
     watch::call(Call::Relocate);
     unsafe { tl_relocate(area.pointer(), area.len(), base, target.pointer(), target.len(), target_base) }
+}
+
+pub fn tidy(area: &mut Lent, base: u64) -> Done {
+    watch::call(Call::Tidy);
+    unsafe { tl_tidy(area.pointer(), area.len(), base) }
 }
 
 pub fn check09(area: &mut Lent, base: u64) -> Checked {

@@ -5,6 +5,7 @@
 use crate::damage::spoil;
 use crate::lists09;
 use crate::model::{self, align8, field, put_u32, Edition, ADDRESS_END, LONGEST_AREA};
+use crate::model_tidy;
 use crate::rng::Rng;
 
 /// A list as it is lent: the bytes of the area and the stated base address; and the edition that it
@@ -159,10 +160,11 @@ fn edit(rng: &mut Rng, list: &mut List) {
     let tag = rng.range(1, 4) as u32;
     let length = rng.small(if list.area.len() > 4096 { 15 } else { 7 });
     let data = rng.bytes(length as usize);
-    match rng.below(11) {
-        0..=2 => model::add(&mut list.area, list.base, tag, &data, false),
-        3..=5 => model::add(&mut list.area, list.base, tag, &data, true),
-        6 | 7 => model::add_aligned(&mut list.area, list.base, tag, &data, good_exponent(rng)),
+    match rng.below(23) {
+        0..=5 => model::add(&mut list.area, list.base, tag, &data, false),
+        6..=11 => model::add(&mut list.area, list.base, tag, &data, true),
+        12..=15 => model::add_aligned(&mut list.area, list.base, tag, &data, good_exponent(rng)),
+        16 => model_tidy::tidy(&mut list.area, list.base),
         _ => model::void(&mut list.area, list.base, tag, rng.below(3)),
     };
 }
@@ -270,32 +272,37 @@ fn longer_header(rng: &mut Rng, least: u8) -> u8 {
     }
 }
 
-/// Entries as long as they stay below the limit; a long list has many small ones or a few large.
+/// Entries as long as they stay below the limit; a long list has many small ones or a few large. Of
+/// eight entries two are voids, or five, so that they stand side by side.
 fn lay_out_entries(rng: &mut Rng, version: u8, area: &mut Vec<u8>, limit: usize) {
     let bits = if limit > 4096 { rng.pick(&[3, 7, 14]) } else { 7 };
+    let voids = rng.pick(&[2, 2, 5]);
     for _ in 0..rng.below(2 + limit as u64 / 16) {
         let hdr_size = if version == 1 { 8 } else { longer_header(rng, 8) };
         let data_size = rng.small(bits) as u32;
-        let entry = laid_out_entry(rng, hdr_size, data_size);
+        let tag_id = if rng.below(8) < voids { 0 } else { live_tag(rng) };
+        let entry = laid_out_entry(rng, tag_id, hdr_size, data_size);
         if area.len() + entry.len() <= limit {
             area.extend(entry);
         }
     }
 }
 
-/// Entries that end just at the limit, the last one mostly without data.
+/// Two entries that end just at the limit, the last one mostly without data; each is a void now and
+/// then.
 fn fill_up(rng: &mut Rng, area: &mut Vec<u8>, limit: usize) {
     let last = rng.pick(&[8, 8, 16]);
     if area.len() + 8 + last <= limit {
         let data_size = limit - last - area.len() - 8;
-        area.extend(laid_out_entry(rng, 8, data_size as u32));
-        area.extend(laid_out_entry(rng, 8, last as u32 - 8));
+        for data_size in [data_size, last - 8] {
+            let tag_id = if rng.once_in(4) { 0 } else { live_tag(rng) };
+            area.extend(laid_out_entry(rng, tag_id, 8, data_size as u32));
+        }
     }
 }
 
 /// An entry with its data and its padding, which is mostly not 0.
-fn laid_out_entry(rng: &mut Rng, hdr_size: u8, data_size: u32) -> Vec<u8> {
-    let tag_id = laid_out_tag(rng);
+fn laid_out_entry(rng: &mut Rng, tag_id: u32, hdr_size: u8, data_size: u32) -> Vec<u8> {
     let data_size = if tag_id == 0 { data_size / 8 * 8 } else { data_size };
     let mut entry = rng.bytes(align8(hdr_size as u128 + data_size as u128) as usize);
     put_u32(&mut entry, 0, tag_id);
@@ -305,12 +312,11 @@ fn laid_out_entry(rng: &mut Rng, hdr_size: u8, data_size: u32) -> Vec<u8> {
 }
 
 /// Tags often alike, so that they have several occurrences; the reserved ones may stand in a list.
-fn laid_out_tag(rng: &mut Rng) -> u32 {
-    match rng.below(8) {
-        0 | 1 => 0,
-        2..=4 => rng.range(1, 4) as u32,
-        5 => rng.pick(&[5, 6, 0x100, 0x101, 0x102, 0x103, 0x104]),
-        6 => rng.pick(&[0x7f_ffff, 0x80_0000, 0xff_efff, 0xff_f000, 0xff_ffff]),
+fn live_tag(rng: &mut Rng) -> u32 {
+    match rng.below(6) {
+        0..=2 => rng.range(1, 4) as u32,
+        3 => rng.pick(&[5, 6, 0x100, 0x101, 0x102, 0x103, 0x104]),
+        4 => rng.pick(&[0x7f_ffff, 0x80_0000, 0xff_efff, 0xff_f000, 0xff_ffff]),
         _ => rng.range(1, 0xff_ffff) as u32,
     }
 }

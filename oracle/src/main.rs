@@ -1,4 +1,4 @@
-//! Compares libtransfer_list.a with the model of document 01 and of document 02, requests 1 and 2, on
+//! Compares libtransfer_list.a with the model of document 01 and of document 02, requests 1 to 3, on
 //! many lists.
 //!
 //! `oracle [LISTS [SEED]]`; the list after that of seed S is the one of seed S + 1.
@@ -7,12 +7,14 @@ mod calls09;
 mod compare;
 mod edges09;
 mod edges_event_log;
+mod edges_tidy;
 mod edits;
 mod huge;
 mod huge09;
 mod lent;
 mod library;
 mod relocations;
+mod tidies;
 mod watch;
 
 use compare::Bench;
@@ -57,12 +59,15 @@ fn run(lists: u64, seed: u64) -> Result<(), String> {
     for index in 0..lists {
         one_list(&mut bench, seed.wrapping_add(index)).map_err(|report| format!("list {index}: {report}"))?;
     }
+    // The edges have their runs of voids on purpose; these were met by chance.
+    let runs = std::mem::take(&mut bench.runs);
     bench.edges09()?;
     bench.edges_event_log()?;
+    bench.edges_tidy()?;
     bench.huge_lengths()?;
     bench.huge_lengths09()?;
-    println!("{}\n{}", bench.tally.table(), bench.event_logs.table());
-    let unseen = [bench.tally.unseen(), bench.event_logs.unseen()].concat();
+    println!("{}\n{}\n{}", bench.tally.table(), bench.event_logs.table(), runs.table());
+    let unseen = [bench.tally.unseen(), bench.event_logs.unseen(), runs.unseen()].concat();
     if !unseen.is_empty() {
         return Err(unseen.join("\n"));
     }

@@ -1,6 +1,6 @@
 //! The seven jobs of document 01, each sentence written down plainly; the tag table as document 02,
 //! request 2, amends it. The checks 1 to 8, check and find serve lists of edition 0.9 too (document 02,
-//! request 1); `model09` has what is theirs alone.
+//! request 1); `model09` has what is theirs alone, and `model_tidy` the job of request 3.
 //!
 //! "All sums here are whole-number sums; none wraps": every sum is made in u128, where the largest
 //! address and the largest length together stay far below the limit.
@@ -265,8 +265,8 @@ impl Header {
 }
 
 /// "An entry is tag (3 bytes), hdr_size (1), data_size (4), then data."
-struct Entry {
-    place: u128,
+pub(crate) struct Entry {
+    pub(crate) place: u128,
     tag_id: u32,
     hdr_size: u128,
     data_size: u128,
@@ -284,12 +284,12 @@ impl Entry {
     }
 
     /// "The next [entry is] at align8(entry hdr_size + data_size) further on."
-    fn stretch(&self) -> u128 {
+    pub(crate) fn stretch(&self) -> u128 {
         align8(self.hdr_size + self.data_size)
     }
 
     /// "Tag 0 is a void; every other entry is live."
-    fn is_live(&self) -> bool {
+    pub(crate) fn is_live(&self) -> bool {
         self.tag_id != VOID_TAG
     }
 
@@ -301,7 +301,7 @@ impl Entry {
 /// A list that has passed checks 1 to 8.
 pub(crate) struct List {
     pub(crate) header: Header,
-    entries: Vec<Entry>,
+    pub(crate) entries: Vec<Entry>,
 }
 
 impl List {
@@ -323,7 +323,7 @@ impl List {
         List::open(edition, area, base, false)
     }
 
-    /// READONLY is for "add, add aligned, void or relocate", and for a conversion.
+    /// READONLY is for "add, add aligned, void or relocate", for a conversion and for tidy.
     pub(crate) fn open_to_edit(edition: Edition, area: &[u8], base: u64) -> Result<List, u32> {
         List::open(edition, area, base, true)
     }
@@ -395,7 +395,7 @@ fn put_entry(area: &mut [u8], place: u128, tag_id: u32, data: &[u8]) {
 }
 
 /// Writes a void whose data is 0.
-fn put_zero_void(area: &mut [u8], place: u128, data_size: u128) {
+pub(crate) fn put_zero_void(area: &mut [u8], place: u128, data_size: u128) {
     let end = place + cover(data_size);
     area[place as usize..end as usize].fill(0);
     put_entry_header(area, place, VOID_TAG, data_size);

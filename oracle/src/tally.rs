@@ -3,7 +3,7 @@
 use std::fmt::Write;
 
 pub const NUMBERS: usize = 15;
-const CALLS: usize = 10;
+const CALLS: usize = 11;
 
 #[derive(Clone, Copy, PartialEq, Eq)]
 pub enum Call {
@@ -14,6 +14,7 @@ pub enum Call {
     AddAligned,
     Void,
     Relocate,
+    Tidy,
     Check09,
     Find09,
     Convert09,
@@ -28,6 +29,7 @@ impl Call {
         Call::AddAligned,
         Call::Void,
         Call::Relocate,
+        Call::Tidy,
         Call::Check09,
         Call::Find09,
         Call::Convert09,
@@ -43,6 +45,7 @@ impl Call {
             Call::AddAligned => "tl_add_aligned",
             Call::Void => "tl_void",
             Call::Relocate => "tl_relocate",
+            Call::Tidy => "tl_tidy",
             Call::Check09 => "tl09_check",
             Call::Find09 => "tl09_find",
             Call::Convert09 => "tl09_convert",
@@ -58,6 +61,7 @@ impl Call {
             Call::Add => &[0, 1, 2, 3, 4, 5, 6, 7, 8, 9, 10, 14],
             Call::AddAligned => &[0, 1, 2, 3, 4, 5, 6, 7, 8, 9, 10, 11, 14],
             Call::Void => &[0, 1, 2, 3, 4, 5, 6, 7, 8, 9, 13],
+            Call::Tidy => &[0, 1, 2, 3, 4, 5, 6, 7, 8],
             Call::Relocate | Call::Convert09 => &[0, 1, 2, 3, 4, 5, 6, 7, 8, 12, 14],
         }
     }

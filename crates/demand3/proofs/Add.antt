@@ -22,7 +22,7 @@ use Rattle.rules.specs.Tags.{refusesShape}
 use Rattle.rules.specs.Outcome.{Outcome, refused, done}
 use Rattle.rules.specs.Add.{entrySpan, entryBytes, takenVoid, append, room, addInVoid, addAtEnd, addAt, add}
 use Rattle.rules.specs.Edit.{Edit, toAdd, inPlace, destination}
-use Rattle.rules.specs.Demand3.{AcceptedV1, Holds, Live, liveIn, reading, changed, putIn, oldUsedToNew, headerStretches, stretches}
+use Rattle.rules.specs.Demand3.{AcceptedV1, Holds, Live, liveIn, reading, changed, putIn, oldUsedToNew, headerStretches, stretches, KeepsAddresses}
 use Rattle.laws.proofs.Walk.{neither}
 use Rattle.laws.proofs.Passed.{tag-range}
 use Rattle.laws.proofs.EntryBytes.{length-entryBytes}
@@ -78,9 +78,9 @@ pub end-holds : (e : Edit) (a : List ℕ) (base tag value : ℕ) (content bytes 
     → AcceptedV1 a base → AtEnd a c (pad ++ entryBytes tag content) → Read c (usedOf a) (usedOf a + length pad) xs []
     → destination e ≡ inPlace → stretches e a (seal c) ≡ oldUsedToNew a (seal c) ∷ headerStretches → seal c ≡ bytes
     → changed e a (reading a) ≡ putIn (liveCount (entriesOf a)) (record { tag = tag; content = content }) (reading a)
-    → Holds e a base value bytes
+    → KeepsAddresses e a base (seal c) base → Holds e a base value bytes
 unfolding headerOf reading
-end-holds e a base tag value content bytes c pad xs solid low accepted k before d s is live =
+end-holds e a base tag value content bytes c pad xs solid low accepted k before d s is live addresses =
     let r : Ready a base (entriesOf a) = ready-of a base accepted in
     let v : ℕ = field a 8 4 + length pad in
     let t : Put a c (usedOf a) (pad ++ entryBytes tag content) = k .put in
@@ -93,7 +93,7 @@ end-holds e a base tag value content bytes c pad xs solid low accepted k before 
     let x = rw q at (written-entry c v tag content solid low (omega (arith, k .fits)) (omega (arith, k .fits, t .size, r .header .sizes .total)) w) in
     in-place-holds e a base value bytes d is (rw (s, seal-field c 8 4 (omega arith), used)) (ready-low a base (entriesOf a) r) t
     (change-end (entriesOf a) r t (k .least) (k .most) (rw used (k .fits)) (r .row) (read-append before x))
-    (rw live (put-last a (entriesOf a) (record { tag = tag; content = content })))
+    (rw live (put-last a (entriesOf a) (record { tag = tag; content = content }))) addresses
 
 -- ---- add
 
@@ -121,4 +121,4 @@ add-holds a base tag value content useVoids bytes accepted h =
         let new : List ℕ = entryBytes tag content in
         let t = at-end a base (entriesOf a) new (ready-of a base accepted) (rw (length-entryBytes tag content) (k .0)) in
         end-holds (toAdd tag content useVoids) a base tag value content bytes (append a new) [] [] s l accepted t
-        (read-none _ (usedOf a) (usedOf a + 0) (omega arith)) refl (rw f) b (rw f)
+        (read-none _ (usedOf a) (usedOf a + 0) (omega arith)) refl (rw f) b (rw f) tt

@@ -108,7 +108,7 @@ module _ (a : List ℕ) (base tag value : ℕ) (content : List ℕ) (exponent : 
       let short : length pad < 2 ^ 32 = omega (arith, k .fits, z .total, r .header .usable .short) in
       let b = padding-void c u exponent at least (omega (arith, r .header .usable .base8, z .used8)) short
       (written-left c u pad (entryBytes tag content) (k .put .written)) in
-      end-holds (toAddAligned tag content exponent) a base tag value content bytes c pad (b .0) solid low accepted k (b .1) refl refl is refl
+      end-holds (toAddAligned tag content exponent) a base tag value content bytes c pad (b .0) solid low accepted k (b .1) refl refl is refl tt
 
   -- Demand 3 for add aligned
   pub add-aligned-holds : addAligned a base tag content exponent ≡ done value bytes → Holds (toAddAligned tag content exponent) a base value bytes

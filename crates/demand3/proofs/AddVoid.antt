@@ -88,7 +88,7 @@ module _ (a : List ℕ) (base tag value : ℕ) (content : List ℕ) (useVoids : 
       let k = written-entry c (e .at) tag content solid low (omega arith) (omega (arith, t .size)) x in
       in-place-holds (toAdd tag content useVoids) a base value bytes refl is (rw (found, ln)) (p .low) t
       (change-within (e .at + span e) xs ys r t (omega arith) (p .front) (p .back) (read-append k (b .1)))
-      (rw (found, whole) (sym (put-there a xs e ys (record { tag = tag; content = content }) p empty)))
+      (rw (found, whole) (sym (put-there a xs e ys (record { tag = tag; content = content }) p empty))) tt
 
   -- the entry in the place of the void that is taken
   pub add-void-holds : AcceptedV1 a base → Holds (toAdd tag content useVoids) a base value bytes

@@ -45,7 +45,7 @@ voided a base tag n value bytes xs e ys r found out is =
     written-void c (e .at) m (e .at + span e) (omega arith) (omega arith) (omega (arith, r .header .usable .short))
     (written-left c (e .at) (entryHeader 0 m) (replicate m 0) (t .written)) in
     in-place-holds (toVoid tag n) a base value bytes refl is (rw (found, l, w)) (p .low) t
-    (change-within (e .at + span e) xs ys r t (omega arith) (p .front) (p .back) v) (sym (out ∙ live-append a xs ys))
+    (change-within (e .at + span e) xs ys r t (omega arith) (p .front) (p .back) v) (sym (out ∙ live-append a xs ys)) tt
 
 -- Demand 3 for void
 pub void-holds : (a : List ℕ) (base tag n value : ℕ) (bytes : List ℕ) → AcceptedV1 a base → void a tag n ≡ done value bytes

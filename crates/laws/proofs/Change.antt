@@ -77,30 +77,25 @@ pub record Changed (a c : List ℕ) (base : ℕ) (es : List Entry) (xs : List Li
   pub live : liveIn c es ≡ xs
   pub flags : headerOf c .flags ≡ headerOf a .flags
 
--- behind the entries xs of a list that is ready, the entries ns stand from p to q, and behind them ys up to used_size
-pub change : {a c new : List ℕ} {base p q : ℕ} {es ns ys : List Entry} {ls ms : List Live} (xs : List Entry) → Ready a base es → Put a c p new
-    → leastAlignment ≤ headerOf c .alignment → headerOf c .alignment ≤ maxAlignment → usedOf c ≤ totalOf a
-    → Row a headerSize p xs → Read c p q ns ls → Read c q (usedOf c) ys ms
-    → Changed a c base (xs ++ (ns ++ ys)) (liveIn a xs ++ (ls ++ ms))
+-- c differs from a list that is ready in some stretches, of the header in these three fields at the most: it is ready with the entries
+-- ns that stand behind its header
+pub changed-by : {a c : List ℕ} {base : ℕ} {es ns : List Entry} {ls : List Live} (ss : List Stretch) → Ready a base es → length c ≡ length a
+    → Differs a c ss → ((i : ℕ) → i < headerSize → Outside headerStretches i → Outside ss i)
+    → leastAlignment ≤ headerOf c .alignment → headerOf c .alignment ≤ maxAlignment → usedOf c ≤ totalOf a → Read c headerSize (usedOf c) ns ls
+    → Changed a c base ns ls
 unfolding headerOf
-change {a} {c} {new} {base} {p} {q} {es} {ns} {ys} xs r t least most fits front row behind =
-    let low : 24 ≤ p = row-le a headerSize p xs front in
-    let p≤q : p ≤ q = row-le c p q ns (row .row) in
-    let q≤u : q ≤ field c usedAt 4 = row-le c q (usedOf c) ys (behind .row) in
+changed-by {a} {c} {base} {es} {ns} ss r n d o least most fits k =
     let top : field a 12 4 ≤ length a = r .header .sizes .total in
-    let n : length c ≡ length a = t .size in
-    let ss : List Stretch = bytesFrom p (length new) ∷ headerStretches in
-    let f : (at k : ℕ) → ((i : ℕ) → at ≤ i → i < at + k → Outside ss i) → field c at k ≡ field a at k = λ at k. differs-field a c ss at k (t .differs) in
-    let total : field c 12 4 ≡ field a 12 4 = f 12 4 (omega arith) in
-    let same : Same a c 24 p = λ i x y. sym (t .differs i (omega arith)) in
-    let k = read-append (read-same a c 24 p xs front (omega arith) (omega arith) same) (read-append row behind) in
+    let f : (at m : ℕ) → at + m ≤ headerSize → ((i : ℕ) → at ≤ i → i < at + m → Outside headerStretches i) → field c at m ≡ field a at m =
+    λ at m l h. differs-field a c ss at m d (λ i x y. o i (omega arith) (h i x y)) in
+    let total : field c 12 4 ≡ field a 12 4 = f 12 4 (omega arith) (omega arith) in
     record {
-      ready = ready-by c base (xs ++ (ns ++ ys))
+      ready = ready-by c base ns
           (record {
             usable = rw n (r .header .usable);
-            signed = f 0 4 (omega arith) ∙ r .header .signed;
-            version = f 5 1 (omega arith) ∙ r .version;
-            header = f 6 1 (omega arith) ∙ header-size a base es r;
+            signed = f 0 4 (omega arith) (omega arith) ∙ r .header .signed;
+            version = f 5 1 (omega arith) (omega arith) ∙ r .version;
+            header = f 6 1 (omega arith) (omega arith) ∙ header-size a base es r;
             least = least;
             most = most;
             total8 = rw total (r .header .sizes .total8);
@@ -109,8 +104,23 @@ change {a} {c} {new} {base} {p} {q} {es} {ns} {ys} xs r t least most fits front 
             row = k .row;
           });
       live = k .live;
-      flags = f 16 4 (omega arith);
+      flags = f 16 4 (omega arith) (omega arith);
     }
+
+-- behind the entries xs of a list that is ready, the entries ns stand from p to q, and behind them ys up to used_size
+pub change : {a c new : List ℕ} {base p q : ℕ} {es ns ys : List Entry} {ls ms : List Live} (xs : List Entry) → Ready a base es → Put a c p new
+    → leastAlignment ≤ headerOf c .alignment → headerOf c .alignment ≤ maxAlignment → usedOf c ≤ totalOf a
+    → Row a headerSize p xs → Read c p q ns ls → Read c q (usedOf c) ys ms
+    → Changed a c base (xs ++ (ns ++ ys)) (liveIn a xs ++ (ls ++ ms))
+change {a} {c} {new} {base} {p} {q} {es} {ns} {ys} xs r t least most fits front row behind =
+    let low : 24 ≤ p = row-le a headerSize p xs front in
+    let p≤q : p ≤ q = row-le c p q ns (row .row) in
+    let q≤u : q ≤ usedOf c = row-le c q (usedOf c) ys (behind .row) in
+    let top : totalOf a ≤ length a = r .header .sizes .total in
+    let n : length c ≡ length a = t .size in
+    let same : Same a c 24 p = λ i x y. sym (t .differs i (omega arith)) in
+    changed-by (bytesFrom p (length new) ∷ headerStretches) r n (t .differs) (λ i x h. (omega arith, h)) least most fits
+    (read-append (read-same a c 24 p xs front (omega arith) (omega arith) same) (read-append row behind))
 
 -- the entries of a behind the new bytes stand there as before
 pub behind-same : {a c new : List ℕ} {p : ℕ} (q : ℕ) (ys : List Entry) → Put a c p new → usedOf c ≡ usedOf a → usedOf a ≤ length a

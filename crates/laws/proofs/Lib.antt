@@ -19,3 +19,6 @@ pub mod Written
 pub mod Change
 pub mod Patch
 pub mod Moved
+pub mod Tidy
+pub mod Tiles
+pub mod Cleared

@@ -5,7 +5,7 @@ use native.Mathlib.Omega.{arith}
 use mathlib.Core.Bool.{Bool, true, false, cond}
 use mathlib.Core.List.{List, [], _∷_, _++_}
 use lib.ListN.{length, take, drop, getD, set, length-set}
-use lib.Seq.{length-take-le, set-split, take-append-le, take-set-le, take-set-lt, drop-set-lt, getD-set-same, set-append-left}
+use lib.Seq.{length-take-le, set-split, set-getD, take-append-le, take-set-le, take-set-lt, drop-set-lt, getD-set-same, set-append-left}
 use lib.Dec.{eqb}
 use lib.Bits.{bitXor, xor-self, xor-zero-r}
 use borrow.Author.Tests.{eq-eqb}
@@ -90,3 +90,13 @@ seal-append d z l u =
     let t : take (field d 8 4) (d ++ z) ≡ take (field d 8 4) d = take-append-le (field d 8 4) d z (omega arith) in
     let e : freshChecksum (d ++ z) ≡ freshChecksum d = fresh (d ++ z) ∙ rw (f, n, t) (sym (fresh d)) in
     rw e (set-append-left d z 4 (freshChecksum d) (omega arith))
+
+-- sealing leaves used_size
+pub seal-used : (c : List ℕ) → headerOf (seal c) .«used_size» ≡ headerOf c .«used_size»
+unfolding headerOf
+seal-used c = seal-field c 8 4 (omega arith)
+
+-- a list whose checksum is fresh is sealed already
+pub seal-again : (b : List ℕ) → getD b checksumAt 0 ≡ freshChecksum b → seal b ≡ b
+unfolding seal
+seal-again b h = rw (← h) (set-getD b 4 0)

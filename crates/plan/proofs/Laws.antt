@@ -2,7 +2,7 @@
 use mathlib.Core.Path.{_≡_, refl, sym, _∙_}
 use Prim.Native.Nat.{ℕ, _+_, _-_, _≤_, _<_, _^_, min, max}
 use native.Mathlib.Omega.{arith}
-use mathlib.Core.Bool.{Bool, true, false}
+use mathlib.Core.Bool.{Bool, true, false, cond}
 use mathlib.Core.List.{List, [], _++_}
 use lib.ListN.{length, take, drop, replicate, length-append, length-take, length-replicate}
 use lib.Seq.{take-take, take-all}
@@ -64,6 +64,14 @@ headerSpan-le n = go (ltb n 8) refl
     go : (b : Bool) → ltb n 8 ≡ b → (headerSpan n ≤ n) × (headerSpan n ≤ 8)
     go true t = rw t (omega arith, omega arith)
     go false t = let h : 8 ≤ n = ltb-false n 8 t in rw t (h, omega arith)
+
+-- nor does a whole void
+pub voidSpan-le : (n : ℕ) → voidSpan n ≤ n
+voidSpan-le n = go (ltb n 8)
+  where
+    go : (b : Bool) → cond b 0 n ≤ n
+    go true = omega arith
+    go false = omega arith
 
 -- ---- lengths
 

@@ -35,7 +35,7 @@ fn write_void_header(a: &mut [u8], at: usize, n: usize)
 }
 
 // A void that takes n bytes, its data 0, if there is one.
-fn write_void(a: &mut [u8], at: usize, n: usize)
+pub fn write_void(a: &mut [u8], at: usize, n: usize)
     requires { ⌜ (at + n ≤ length (now a)) × (n < 2 ^ 32) ⌝ }
     ensures { λ _. ⌜ now (a .exit) ≡ splice (now (a .entry)) at (wholeVoid n) ⌝ }
 {

@@ -11,7 +11,7 @@ use Rattle.rules.specs.declared.Facts.{Facts}
 use Rattle.rules.specs.declared.DoneAnswer.{DoneAnswer}
 use Rattle.rules.specs.declared.Checked.the-variants.{Accepted}
 use Rattle.rules.specs.Header.{headerOf, currentVersion, checksumAt, alignmentAt, usedAt, totalAt}
-use Rattle.rules.specs.Entries.{isVoid, dataOffset, entriesOf, liveCount, occurrence}
+use Rattle.rules.specs.Entries.{isVoid, span, dataOffset, entriesOf, liveCount, occurrence, liveOnes}
 use Rattle.rules.specs.Checksum.{freshChecksum}
 use Rattle.rules.specs.Check.{check}
 use Rattle.rules.specs.Outcome.{done, answer, bytesAfter, doneAnswer}
@@ -22,6 +22,7 @@ use Rattle.rules.specs.Edit.{
   toAddAligned,
   toVoid,
   toRelocate,
+  toTidy,
   run,
   Destination,
   inPlace,
@@ -79,6 +80,7 @@ changed (toAdd tag content useVoids) a xs =
 changed (toAddAligned tag content exponent) a xs = putIn (position a none) (record { tag = tag; content = content }) xs
 changed (toVoid tag n) a xs = takeOut tag n xs
 changed (toRelocate target targetBase) a xs = xs
+changed toTidy a xs = xs
 
 -- ---- the named bytes
 
@@ -105,17 +107,24 @@ abbrev pub voidStretch : Option Entry → Stretch
 voidStretch (some e) = bytesFrom (e .at) (entrySpan (e .«data_size»))
 voidStretch none = bytesFrom 0 0
 
+-- request 3: "the voids' stretches"
+unfoldable pub voidStretches : List Entry → List Stretch
+voidStretches [] = []
+voidStretches (e ∷ es) = cond (isVoid e) (bytesFrom (e .at) (span e) ∷ voidStretches es) (voidStretches es)
+
 -- "4, 7 and 8 to 11 of the header"
 abbrev pub headerStretches : List Stretch
 headerStretches = bytesFrom checksumAt 1 ∷ bytesFrom alignmentAt 1 ∷ bytesFrom usedAt 4 ∷ []
 
--- the named bytes of the edit of the list a that gives the list after; "in a relocation, of the used bytes only 4 and 12 to 15"
+-- the named bytes of the edit of the list a that gives the list after; "in a relocation, of the used bytes only 4 and 12 to 15"; in a
+-- tidy, as request 3 adds, "the voids' stretches, the checksum and used"
 abbrev pub stretches : Edit → List ℕ → List ℕ → List Stretch
 stretches (toAdd tag content useVoids) a after =
     addStretch a after (length content) (takenVoid useVoids (length content) a) ∷ headerStretches
 stretches (toAddAligned tag content exponent) a after = oldUsedToNew a after ∷ headerStretches
 stretches (toVoid tag n) a after = voidStretch (occurrence tag n (entriesOf a)) ∷ headerStretches
 stretches (toRelocate target targetBase) a after = bytesFrom checksumAt 1 ∷ bytesFrom totalAt 4 ∷ []
+stretches toTidy a after = bytesFrom checksumAt 1 ∷ bytesFrom usedAt 4 ∷ voidStretches (entriesOf a)
 
 -- i is a place of a stretch
 abbrev pub within : Stretch → ℕ → Bool
@@ -137,11 +146,18 @@ compared (into target targetBase) a = headerOf a .«used_size»
 abbrev pub addressesModulo : ℕ → ℕ → List ℕ → List ℕ
 addressesModulo m base a = map (λ (e : Entry). (base + dataOffset e) % m) (entriesOf a)
 
--- after a relocation each equals the old one modulo 2^alignment
-abbrev pub KeepsAddresses : Destination → List ℕ → ℕ → List ℕ → ℕ → Type 0
-KeepsAddresses inPlace a base after newBase = Unit
-KeepsAddresses (into target targetBase) a base after newBase =
+-- of the live entries alone, as they are
+abbrev pub liveAddresses : ℕ → List ℕ → List ℕ
+liveAddresses base a = map (λ (e : Entry). base + dataOffset e) (liveOnes (entriesOf a))
+
+-- after a relocation each equals the old one modulo 2^alignment; after a tidy, as request 3 adds, "Live entries stay at their offsets"
+abbrev pub KeepsAddresses : Edit → List ℕ → ℕ → List ℕ → ℕ → Type 0
+KeepsAddresses (toAdd tag content useVoids) a base after newBase = Unit
+KeepsAddresses (toAddAligned tag content exponent) a base after newBase = Unit
+KeepsAddresses (toVoid tag n) a base after newBase = Unit
+KeepsAddresses (toRelocate target targetBase) a base after newBase =
     addressesModulo (2 ^ headerOf a .alignment) newBase after ≡ addressesModulo (2 ^ headerOf a .alignment) base a
+KeepsAddresses toTidy a base after newBase = liveAddresses newBase after ≡ liveAddresses base a
 
 -- ---- the demand
 
@@ -158,7 +174,7 @@ pub record Kept (e : Edit) (a : List ℕ) (base : ℕ) (after : List ℕ) (newBa
   pub flags : headerOf after .flags ≡ headerOf a .flags
   pub live : reading after ≡ changed e a (reading a)
   pub others : (i : ℕ) → i < compared (destination e) a → named (stretches e a after) i ≡ false → getD after i 0 ≡ getD a i 0
-  pub addresses : KeepsAddresses (destination e) a base after newBase
+  pub addresses : KeepsAddresses e a base after newBase
 
 -- and of an edit that answers `value` and leaves `bytes`: as many bytes are lent afterwards as before
 pub record Holds (e : Edit) (a : List ℕ) (base value : ℕ) (bytes : List ℕ) : Type 0 where

@@ -99,3 +99,8 @@ unfoldable pub occurrence : ℕ → ℕ → List Entry → Option Entry
 occurrence tag n [] = none
 occurrence tag n (e ∷ es) =
     cond (eqb (e .«tag_id») tag) (cond (eqb n 0) (some e) (occurrence tag (n - 1) es)) (occurrence tag n es)
+
+-- the live ones of some entries
+unfoldable pub liveOnes : List Entry → List Entry
+liveOnes [] = []
+liveOnes (e ∷ es) = cond (isVoid e) (liveOnes es) (e ∷ liveOnes es)

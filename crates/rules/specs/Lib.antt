@@ -1,5 +1,6 @@
 -- The written rules of document 01, one file for each part of it, in its order, and behind them one for each request of document 02
--- that adds a call. Read them in the order of these lines.
+-- that adds a call; request 3's tidy, which is an edit, stands before Edit, and what holds of a tidied list behind the others. Read them
+-- in the order of these lines.
 -- The words for bytes (field, leBytes, xor, splice, sum) are those of wire's specs/Bytes.antt.
 pub mod Area
 pub mod Header
@@ -16,6 +17,8 @@ pub mod Add
 pub mod AddAligned
 pub mod Void
 pub mod Relocate
+pub mod Tidy
 pub mod Edit
 pub mod Demand3
 pub mod Edition09
+pub mod TidyTwice

@@ -63,7 +63,7 @@ refusesSignature ed h = not (eqb (h .signature) (ed .signature))
 abbrev pub refusesVersion : Header → Bool
 refusesVersion h = eqb (h .version) 0
 
--- 5: version is over 1 and the call is add, add aligned, void or relocate or, as amended by request 1, a conversion
+-- 5: version is over 1 and the call is add, add aligned, void or relocate or, as amended by requests 1 and 3, a conversion or a tidy
 abbrev pub refusesReadonly : Bool → Header → Bool
 refusesReadonly editing h = editing && ltb currentVersion (h .version)
 

@@ -130,7 +130,7 @@ pub enum Found {
     Refused(Refusal),
 }
 
-// The answer of create, of the edits and of the conversion: the total, an offset or the shift.
+// The answer of create, of the edits and of the conversion: the total, an offset, the shift or the new used size.
 pub enum Done {
     Value(u32),
     Refused(Refusal),

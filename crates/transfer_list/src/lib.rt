@@ -9,6 +9,7 @@ use relocate::relocate;
 use rules::CheckAnswer;
 use rules::DoneAnswer;
 use rules::FindAnswer;
+use tidy::tidy;
 use walk::check;
 use walk::find;
 use walk::format::Format;
@@ -18,7 +19,7 @@ ghost use Rattle.rules.specs.Check.{check as checkRule, checkAnswer};
 ghost use Rattle.rules.specs.Find.{find as findRule, findAnswer, findData, partOffset};
 ghost use Rattle.rules.specs.Outcome.{answer, bytesAfter, doneAnswer};
 ghost use Rattle.rules.specs.Create.{create as createRule};
-ghost use Rattle.rules.specs.Edit.{toAdd, toAddAligned, toVoid, toRelocate};
+ghost use Rattle.rules.specs.Edit.{toAdd, toAddAligned, toVoid, toRelocate, toTidy};
 ghost use Rattle.rules.specs.Demand3.{Promised};
 ghost use Rattle.rules.specs.Edition09.{check09, find09, findData09, ConvertPromised};
 
@@ -142,4 +143,12 @@ pub extern "C" fn tl09_convert(
     ensures { λ r. ⌜ ConvertPromised (now (area .entry)) base (now (target .entry)) «target_base» r (now (target .exit)) ⌝ }
 {
     convert::convert(area, base, target, target_base).numbers()
+}
+
+// Tidies the list's voids. Answers the new used size.
+#[no_mangle]
+pub extern "C" fn tl_tidy(area: &mut [u8], base: u64) -> DoneAnswer
+    ensures { λ r. ⌜ Promised toTidy (now (area .entry)) base r (now (area .exit)) ⌝ }
+{
+    tidy::tidy(area, base).numbers()
 }

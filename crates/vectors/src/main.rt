@@ -1,6 +1,6 @@
-// Runs the paper's examples A to N, and examples of edition 0.9 and of the event log's length, on real bytes and prints what the
-// functions answer and leave; the file stdout holds what the papers' rules give. A line: the example, the call, the answer's numbers, and
-// the bytes: of a find the data, of create and an edit the whole area or target, of two large areas the first 24 bytes.
+// Runs the paper's examples A to N, and examples of edition 0.9, of the event log's length and of tidying, on real bytes and prints what
+// the functions answer and leave; the file stdout holds what the papers' rules give. A line: the example, the call, the answer's numbers,
+// and the bytes: of a find the data, of create and an edit the whole area or target, of two large areas the first 24 bytes.
 use rules::CheckAnswer;
 use rules::Done;
 use rules::FindAnswer;
@@ -314,6 +314,112 @@ fn short_event_log() {
     show_find(b"short event log", list, 0x1000, 5, 0);
 }
 
+// ---- Tidying (document 02, request 3). The examples are our own.
+
+// Tag 1 with 8 bytes, and without data.
+fn add_two(area: &mut [u8]) {
+    edit::edits::add(area, 0x1000, 1, b"old data", false);
+    edit::edits::add(area, 0x1000, 1, b"", false);
+}
+
+// These two, tag 0x200 with three bytes, these two, tag 1 without data.
+fn make_six(area: &mut [u8]) {
+    create::create(area, 0x1000, true);
+    add_two(area);
+    edit::edits::add(area, 0x1000, 0x200, b"\xaa\xbb\xcc", false);
+    add_two(area);
+    edit::edits::add(area, 0x1000, 1, b"", false);
+}
+
+// The six with other tags for 1, set by hand, and so is the checksum: with tag 0, voids that still have their data. A byte of padding and
+// one behind the used bytes are not 0. Tidied twice.
+fn tidy_six(example: &[u8], first: u8, second: u8, fourth: u8, fifth: u8, sixth: u8) {
+    let mut area = [0u8; 104];
+    make_six(&mut area);
+    area[24] = first;
+    area[40] = second;
+    area[64] = fourth;
+    area[80] = fifth;
+    area[88] = sixth;
+    area[63] = 0x5a;
+    area[103] = 0xee;
+    area[4] = 0x6a ^ first ^ second ^ fourth ^ fifth ^ sixth;
+    show_check(example, &area, 0x1000);
+    let once = tidy::tidy(&mut area, 0x1000);
+    io::write_all(1, example);
+    show_done(b" tidy", once, &area);
+    let twice = tidy::tidy(&mut area, 0x1000);
+    io::write_all(1, example);
+    show_done(b" tidy", twice, &area);
+    show_check(example, &area, 0x1000);
+}
+
+// Three voids, two of them with data: all are given back.
+fn tidy_only_voids() {
+    let mut area = [0u8; 72];
+    create::create(&mut area, 0x1000, true);
+    add_two(&mut area);
+    edit::edits::add(&mut area, 0x1000, 1, b"old data", false);
+    area[24] = 0;
+    area[40] = 0;
+    area[48] = 0;
+    area[4] = 0xe4;
+    show_check(b"only voids", &area, 0x1000);
+    let tidied = tidy::tidy(&mut area, 0x1000);
+    show_done(b"only voids tidy", tidied, &area);
+    show_check(b"only voids", &area, 0x1000);
+}
+
+// Two voids before an entry, without a checksum. Other flags and the reserved word are not 0.
+fn tidy_without_checksum() {
+    let mut area = [0u8; 64];
+    create::create(&mut area, 0x1000, false);
+    add_two(&mut area);
+    edit::edits::add(&mut area, 0x1000, 2, b"", false);
+    area[24] = 0;
+    area[40] = 0;
+    area[16] = 0xfe;
+    area[20] = 0x5a;
+    let tidied = tidy::tidy(&mut area, 0x1000);
+    show_done(b"voids without checksum tidy", tidied, &area);
+    show_check(b"voids without checksum", &area, 0x1000);
+}
+
+// Three bytes have no room in a full list with two voids without data; tidied, it takes them.
+fn tidy_for_room() {
+    let mut area = [0u8; 64];
+    create::create(&mut area, 0x1000, true);
+    edit::edits::add(&mut area, 0x1000, 1, b"", false);
+    edit::edits::add(&mut area, 0x1000, 1, b"", false);
+    edit::edits::add(&mut area, 0x1000, 2, b"0123456789abcdef", false);
+    edit::edits::void(&mut area, 0x1000, 1, 0);
+    edit::edits::void(&mut area, 0x1000, 1, 0);
+    let refused = edit::edits::add(&mut area, 0x1000, 3, b"\x01\x02\x03", true);
+    show_done(b"room in voids add", refused, &area);
+    let tidied = tidy::tidy(&mut area, 0x1000);
+    show_done(b"room in voids tidy", tidied, &area);
+    let added = edit::edits::add(&mut area, 0x1000, 3, b"\x01\x02\x03", true);
+    show_done(b"room in voids add", added, &area);
+}
+
+// No entries; a void and a wrong checksum; the same in version 2 with the right one.
+fn tidy_nothing() {
+    let mut area = [0u8; 48];
+    create::create(&mut area, 0x1000, true);
+    let same = tidy::tidy(&mut area, 0x1000);
+    show_done(b"no entries tidy", same, &area);
+    edit::edits::add(&mut area, 0x1000, 1, b"", false);
+    edit::edits::void(&mut area, 0x1000, 1, 0);
+    area[4] = 0xfd;
+    let wrong = tidy::tidy(&mut area, 0x1000);
+    show_done(b"bad checksum tidy", wrong, &area);
+    area[5] = 2;
+    area[4] = 0xff;
+    let later = tidy::tidy(&mut area, 0x1000);
+    show_done(b"void in version 2 tidy", later, &area);
+    show_check(b"void in version 2", &area, 0x1000);
+}
+
 fn main() {
     examples_a_to_d();
     example_e(b"0123456789abcdefg");
@@ -338,4 +444,14 @@ fn main() {
     event_log(b"event log of 4", b"\x01\0\0\0");
     event_log(b"event log of 5", b"\x01\0\0\0\x5a");
     short_event_log();
+    tidy_six(b"no void", 1, 1, 1, 1, 1);
+    tidy_six(b"lone void", 0, 1, 1, 1, 1);
+    tidy_six(b"voids at the start", 0, 0, 1, 1, 1);
+    tidy_six(b"voids in the middle", 1, 1, 0, 0, 1);
+    tidy_six(b"voids at the end", 1, 1, 1, 0, 0);
+    tidy_six(b"voids everywhere", 0, 0, 0, 1, 0);
+    tidy_only_voids();
+    tidy_without_checksum();
+    tidy_for_room();
+    tidy_nothing();
 }

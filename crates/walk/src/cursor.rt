@@ -33,7 +33,7 @@ pub(crate) enum Walked {
 }
 
 // The entry at a place. Its header's eight bytes are read as one number.
-pub(crate) fn entry_at(a: &[u8], at: usize) -> Entry
+pub fn entry_at(a: &[u8], at: usize) -> Entry
     requires { ⌜ at + entryHeaderSize ≤ length (now a) ⌝ }
     ensures { λ r. ⌜ r ≡ entryAt (now (a .entry)) at ⌝ }
 {
@@ -54,7 +54,7 @@ fn span(e: Entry) -> usize
 }
 
 // The bytes that an entry with a header of eight bytes takes.
-fn entry_span(data_size: u32) -> usize
+pub fn entry_span(data_size: u32) -> usize
     ensures { λ r. ⌜ r ≡ entrySpan «data_size» ⌝ }
 {
     (data_size as usize + 15) / 8 * 8
