@@ -6,18 +6,21 @@
 # make install   the archive, the header and a pkg-config file under PREFIX (default /usr/local)
 # make ctest     a C program over the header: every answer and byte as stored; the structures' layout
 # make compare   the library beside the independent second program: LISTS=N SEED=S
-# make bench     the library beside plain Rust
+# make bench     the library beside plain Rust; SHIFT=16, 32 or 48 puts the library's functions so many bytes behind a
+#                line of 64 bytes
 # make size      the archive's sections
 #
 # It needs the Rattle kit (rt), make, gcc and g++ with binutils, and for compare, test and bench cargo. Nothing is fetched from a network.
 
 LISTS = 200000
 SEED = 1
+SHIFT = 0
 PREFIX = /usr/local
 CFLAGS = -O2 -Wall -Wextra -pedantic -Werror
 
 LIB = target/staticlib/libtransfer_list.a
 SOURCES = crates.txt $(shell find crates -name '*.rt' -o -name '*.antt')
+TIMED = target/staticlib/libtimed.a
 C_FLAGS = -std=c99 $(CFLAGS) -Iinclude
 CARGO = cargo build --quiet --release --offline
 
@@ -38,6 +41,9 @@ lib: $(LIB)
 
 $(LIB): $(SOURCES)
 	rt staticlib transfer_list
+
+$(TIMED): $(SOURCES)
+	rt staticlib timed
 
 target/demo/%: demo/%.c demo/table.c demo/table.h include/transfer_list.h $(LIB)
 	mkdir -p target/demo
@@ -69,11 +75,10 @@ compare: $(LIB)
 oracle-test:
 	cargo test --quiet --offline --manifest-path oracle/Cargo.toml --target-dir target/oracle
 
-# each function of both sides starts at a line of 64 bytes, so that no row hangs on the order in which they are linked
-bench: $(LIB)
-	mkdir -p target/bench/lib
-	cp $(LIB) target/bench/lib/
-	objcopy --wildcard --set-section-alignment '.text.*=64' target/bench/lib/libtransfer_list.a
+# plain Rust's functions start at a line of 64 bytes, the library's SHIFT bytes behind one, so that no row depends on the order of linking
+bench: $(LIB) $(TIMED)
+	bench/place $(SHIFT) $(LIB) target/bench/lib/libtransfer_list.a
+	bench/place $(SHIFT) $(TIMED) target/bench/lib/libtimed.a
 	TL_LIB_DIR=$(CURDIR)/target/bench/lib RUSTFLAGS='-C llvm-args=-align-all-functions=6' $(CARGO) --manifest-path bench/Cargo.toml --target-dir target/bench
 	target/bench/release/bench
 

@@ -1,9 +1,10 @@
-// Links the archive that `make lib` leaves.
+// Links the two archives that `make bench` leaves in the folder TL_LIB_DIR.
 fn main() {
-    let root = std::env::var("CARGO_MANIFEST_DIR").unwrap();
-    let dir = std::env::var("TL_LIB_DIR").unwrap_or(format!("{root}/../target/staticlib"));
+    let dir = std::env::var("TL_LIB_DIR").expect("TL_LIB_DIR: set by make bench");
     println!("cargo:rustc-link-search=native={dir}");
-    println!("cargo:rustc-link-lib=static=transfer_list");
     println!("cargo:rerun-if-env-changed=TL_LIB_DIR");
-    println!("cargo:rerun-if-changed={dir}/libtransfer_list.a");
+    for name in ["transfer_list", "timed"] {
+        println!("cargo:rustc-link-lib=static={name}");
+        println!("cargo:rerun-if-changed={dir}/lib{name}.a");
+    }
 }

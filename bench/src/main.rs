@@ -1,8 +1,10 @@
 //! Times the library beside plain Rust in one run, both fully optimised: `make bench`.
 mod plain;
+mod xor;
 
 use plain::{Checked, Done, Found};
 use std::hint::black_box;
+use std::ops::Range;
 use std::time::Instant;
 
 extern "C" {
@@ -118,7 +120,17 @@ fn time(calls: usize, call: &mut impl FnMut()) -> f64 {
 }
 
 fn report(what: &str, (library, plain): (f64, f64)) {
-    println!("{what:<52} library {library:>8.0} ns  plain Rust {plain:>8.0} ns  ratio {:.2}", library / plain);
+    println!("{what:<52} library {library:>8.1} ns  plain Rust {plain:>8.1} ns  ratio {:.2}", library / plain);
+}
+
+/// How many calls a round has: fewer where the list is long.
+fn calls(area: &[u8]) -> usize {
+    let used = u32::from_le_bytes(area[8..12].try_into().unwrap());
+    if used < 1000 {
+        1000
+    } else {
+        50
+    }
 }
 
 /// Times a call that only reads.
@@ -126,7 +138,7 @@ fn time_reading<T: PartialEq + std::fmt::Debug>(what: &str, area: &[u8], library
     assert_eq!(library(area), plain(area), "{what}");
     let times = least(
         200,
-        50,
+        calls(area),
         || {
             black_box(library(black_box(area)));
         },
@@ -142,12 +154,12 @@ fn time_check(what: &str, area: &[u8]) {
     time_reading(what, area, library_check, |a| plain::check(a, BASE, false));
 }
 
-/// Times an edit. Each call is followed by putting back the header and the last bytes, which are all that the edit changes. The time for
-/// that is counted on both sides.
-fn time_edit(what: &str, area: &[u8], last: usize, library: impl Fn(&mut [u8]) -> Done, plain: impl Fn(&mut [u8]) -> Done) {
+/// Times an edit. Each call is followed by putting back the header and these bytes, which are all that the edit changes. The time for that
+/// is counted on both sides.
+fn time_edit(what: &str, area: &[u8], changed: Range<usize>, library: impl Fn(&mut [u8]) -> Done, plain: impl Fn(&mut [u8]) -> Done) {
     let put_back = |a: &mut Vec<u8>| {
         a[..24].copy_from_slice(&area[..24]);
-        a[LENGTH - last..].copy_from_slice(&area[LENGTH - last..]);
+        a[changed.clone()].copy_from_slice(&area[changed.clone()]);
     };
     let (mut one, mut other) = (area.to_vec(), area.to_vec());
     assert_eq!(plain(&mut other).number, 0, "{what}");
@@ -158,7 +170,7 @@ fn time_edit(what: &str, area: &[u8], last: usize, library: impl Fn(&mut [u8]) -
     assert!(one == area && other == area, "{what}: more bytes changed");
     let times = least(
         200,
-        50,
+        calls(area),
         || {
             black_box(library(black_box(&mut one)));
             put_back(&mut one);
@@ -173,7 +185,7 @@ fn time_edit(what: &str, area: &[u8], last: usize, library: impl Fn(&mut [u8]) -
 
 /// Times tidying, after which the whole list is put back.
 fn time_tidy(what: &str, area: &[u8]) {
-    time_edit(what, area, LENGTH - 24, library_tidy, |a| plain::tidy(a, BASE));
+    time_edit(what, area, 24..LENGTH, library_tidy, |a| plain::tidy(a, BASE));
 }
 
 /// Times a conversion into a target of 65,536 bytes.
@@ -197,6 +209,7 @@ fn time_convert09(what: &str, area: &[u8]) {
 }
 
 fn main() {
+    xor::rows();
     time_check("check, 65,536 bytes, one entry", &list([(1, LENGTH - 32)]));
     time_check("check, 65,536 bytes, entries of 8 bytes", &list((0..(LENGTH - 24) / 8).map(|_| (1, 0))));
     // entries of 32 bytes each up to byte 65,464, then 72 bytes of room
@@ -207,14 +220,14 @@ fn main() {
     time_edit(
         "add 64 bytes at the tail, entries of 32 bytes",
         &list(rows.clone()),
-        256,
+        LENGTH - 256..LENGTH,
         |a| library_add(a, false),
         |a| plain::add(a, BASE, LAST, &DATA, false),
     );
     time_edit(
         "void the last entry, entries of 32 bytes",
         &list(rows.chain([(LAST, 64)])),
-        256,
+        LENGTH - 256..LENGTH,
         library_void,
         |a| plain::void(a, BASE, LAST, 0),
     );
@@ -223,9 +236,26 @@ fn main() {
     time_edit(
         "add 64 bytes into the last of many voids",
         &list(voids),
-        256,
+        LENGTH - 256..LENGTH,
         |a| library_add(a, true),
         |a| plain::add(a, BASE, LAST, &DATA, true),
+    );
+    // three entries of 112 bytes each, up to byte 360
+    let short = list([(1, 100), (1, 100), (LAST, 100)]);
+    time_check("check, three entries of 112 bytes", &short);
+    time_edit(
+        "add 64 bytes behind three entries of 112 bytes",
+        &short,
+        360..432,
+        |a| library_add(a, false),
+        |a| plain::add(a, BASE, LAST, &DATA, false),
+    );
+    time_edit(
+        "void the last of three entries of 112 bytes",
+        &short,
+        248..360,
+        library_void,
+        |a| plain::void(a, BASE, LAST, 0),
     );
     time_tidy("tidy, 65,536 bytes, voids of 8 bytes", &list((0..(LENGTH - 24) / 8).map(|_| (0, 0))));
     time_tidy("tidy, 65,536 bytes, every second entry a void", &every_second_void());

@@ -115,7 +115,7 @@ fn refused_edit(number: u32) -> Done {
 }
 
 #[inline(never)]
-fn xor(bytes: &[u8]) -> u8 {
+pub fn xor(bytes: &[u8]) -> u8 {
     bytes.iter().fold(0, |x, b| x ^ b)
 }
 

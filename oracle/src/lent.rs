@@ -4,8 +4,8 @@ use oracle::rng::Rng;
 use std::alloc::{alloc_zeroed, Layout};
 
 const GUARD: usize = 64;
-/// The guard in front is up to this much longer, so that the buffers' real addresses vary.
-const EXTRA: usize = 8;
+/// The guard in front is longer by less than this, so that the buffers' real addresses vary.
+pub const STARTS: usize = 8;
 
 /// A buffer between its guards.
 pub struct Lent {
@@ -72,12 +72,17 @@ pub struct Guards {
 
 impl Guards {
     pub fn new(seed: u64) -> Guards {
-        Guards { pattern: Rng::new(seed).bytes(GUARD + EXTRA), turn: 0 }
+        Guards { pattern: Rng::new(seed).bytes(GUARD + STARTS), turn: 0 }
+    }
+
+    /// The next buffer starts at this one of the places.
+    pub fn start_at(&mut self, start: usize) {
+        self.turn = (start + STARTS - 1) % STARTS;
     }
 
     /// A copy of `bytes` between guards.
     pub fn lend(&mut self, bytes: &[u8]) -> Lent {
-        self.turn = (self.turn + 1) % EXTRA;
+        self.turn = (self.turn + 1) % STARTS;
         let start = GUARD + self.turn;
         let mut held = Vec::with_capacity(start + bytes.len() + GUARD);
         held.extend_from_slice(&self.pattern[..start]);

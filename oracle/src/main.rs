@@ -8,6 +8,7 @@ mod compare;
 mod edges09;
 mod edges_event_log;
 mod edges_tidy;
+mod edges_words;
 mod edits;
 mod huge;
 mod huge09;
@@ -64,6 +65,7 @@ fn run(lists: u64, seed: u64) -> Result<(), String> {
     bench.edges09()?;
     bench.edges_event_log()?;
     bench.edges_tidy()?;
+    bench.edges_words()?;
     bench.huge_lengths()?;
     bench.huge_lengths09()?;
     println!("{}\n{}\n{}", bench.tally.table(), bench.event_logs.table(), runs.table());

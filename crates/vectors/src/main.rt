@@ -1,6 +1,7 @@
-// Runs the paper's examples A to N, and examples of edition 0.9, of the event log's length and of tidying, on real bytes and prints what
-// the functions answer and leave; the file stdout holds what the papers' rules give. A line: the example, the call, the answer's numbers,
-// and the bytes: of a find the data, of create and an edit the whole area or target, of two large areas the first 24 bytes.
+// Runs the paper's examples A to N, and examples of edition 0.9, of the event log's length, of tidying and of the checksum's exclusive or,
+// on real bytes and prints what the functions answer and leave; the file stdout holds what the papers' rules give. A line: the example,
+// the call, the answer's numbers, and the bytes: of a find the data, of create and an edit the whole area or target, of two large areas
+// the first 24 bytes; of the exclusive or the start, and the results over 0, 1, 2 .. bytes from there.
 use rules::CheckAnswer;
 use rules::Done;
 use rules::FindAnswer;
@@ -420,6 +421,49 @@ fn tidy_nothing() {
     show_check(b"void in version 2", &area, 0x1000);
 }
 
+// Bytes of which no two neighbours are equal.
+fn fill(a: &mut [u8]) {
+    let mut i: usize = 0;
+    while i < a.len() {
+        a[i] = (i % 256 * 167 % 256) as u8;
+        i += 1;
+    }
+}
+
+// The exclusive or of n bytes from at on, if there are that many.
+fn show_xor(s: &[u8], at: usize, n: usize) {
+    if n <= s.len() {
+        if at <= s.len() - n {
+            io::write_all(1, b" ");
+            io::print_hex(1, wire::xor_part(s, at, n) as u64, 2);
+        }
+    }
+}
+
+// The exclusive or of 0, 1, 2 .. bytes from a start on, up to the end.
+fn show_xors(s: &[u8], start: u32) {
+    io::write_all(1, b"xor from");
+    number(start);
+    let mut n: usize = 0;
+    while n <= s.len() {
+        show_xor(s, start as usize, n);
+        n += 1;
+    }
+    io::write_all(1, b"\n");
+}
+
+// Any start and any length. A turn takes 1, 8 or 32 bytes, as compiled for x86-64 also 128; 300 are more than two of each.
+fn xors() {
+    let mut bytes = [0u8; 300];
+    fill(&mut bytes);
+    show_xors(&bytes, 0);
+    show_xors(&bytes, 1);
+    show_xors(&bytes, 8);
+    show_xors(&bytes, 13);
+    show_xors(&bytes, 299);
+    show_xors(&bytes, 300);
+}
+
 fn main() {
     examples_a_to_d();
     example_e(b"0123456789abcdefg");
@@ -454,4 +498,5 @@ fn main() {
     tidy_without_checksum();
     tidy_for_room();
     tidy_nothing();
+    xors();
 }

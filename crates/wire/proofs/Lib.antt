@@ -4,3 +4,4 @@ pub mod Xor
 pub mod Sum
 pub mod Splice
 pub mod Field
+pub mod Fold

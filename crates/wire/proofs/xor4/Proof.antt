@@ -1,6 +1,8 @@
--- The four bytes one by one; the exclusive or of the last with that of no byte, 0, is itself.
-use lib.Bits.{xor-zero-r}
-use Rattle.wire.specs.Bytes.{leBytes, xor}
+-- The exclusive or of the halves, and then its two bytes one by one.
+use mathlib.Core.Path.{sym, ap₂, _∙_}
+use Prim.Native.Nat.{_/_, _%_}
+use native.Mathlib.Omega.{arith}
+use Rattle.wire.proofs.Fold.{both, both-is, fold-halves, fold-two}
 use borrow.Author.Needs.{needs}
 use Rattle.wire.proofs.xor4.Statement.{statement}
 use Rattle.wire.proofs.xor4.Tie as tie
@@ -11,16 +13,11 @@ cast-result c = search needs
 cast-result-2 : tie.Need-cast-result-2
 cast-result-2 c = search needs
 
-cast-result-3 : tie.Need-cast-result-3
-cast-result-3 c = search needs
-
-cast-result-4 : tie.Need-cast-result-4
-cast-result-4 c = search needs
-
 returns : tie.Need-returns
-unfolding leBytes xor
-returns c = simp xor-zero-r
+returns c =
+    let n = c .args .n in
+    rw (both-is (n % 65536) (n / 65536), both-is)
+    (ap₂ both (omega arith) (omega arith) ∙ sym (fold-two (both (n % 65536) (n / 65536))) ∙ sym (fold-halves 2 n))
 
 pub xor4-spec : {M : Type 1} → statement M
-xor4-spec =
-    tie.close (tie.spec cast-result cast-result-2 cast-result-3 cast-result-4 returns)
+xor4-spec = tie.close (tie.spec cast-result cast-result-2 returns)
