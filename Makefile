@@ -1,5 +1,5 @@
-# make run       the demonstration: the paper's first examples, a full list tidied, a bench's boot over the library, a list of edition
-#                0.9 converted
+# make run       the demonstration: the paper's first examples, a full list tidied, a bench's boot over the library up to the valves'
+#                test certificates, a list of edition 0.9 converted
 # make show      the entries of a list in a file: FILE=.. BASE=..; without a file, a sample
 # make test      everything that is checked; ends with rt ci, whose last line is 'N passed, 0 failed'
 # make lib       target/staticlib/libtransfer_list.a, for C on x86-64

@@ -2,8 +2,9 @@
  * The paper's examples A to N (it has no L) and every refusal, through the header alone. For each call every field of the answer is
  * printed, how many bytes changed, and the bytes where any did. `make ctest` compares this with answers.expected, which was worked out
  * from the paper and not with this library. The examples of edition 0.9 are our own, since source 000 has none, and so are those of
- * document 02, requests 2 and 3.
+ * document 02, requests 2, 3 and 5, but for the reading of 900.
  */
+#include <float.h>
 #include <inttypes.h>
 #include <stdio.h>
 #include <string.h>
@@ -25,6 +26,7 @@ static uint64_t base; /* where the area is said to stand */
 
 static const uint8_t zeros[SPACE];
 static const uint8_t data[17] = {0xaa, 0xbb, 0xcc, 0xdd, 0xee, 0xff, 0x11, 0x22, 0x33, 0x44, 0x55, 0x66, 0x77, 0x88, 0x99, 0x10, 0x20};
+static const uint8_t *source = data; /* where the adds take their data from */
 
 static void title(const char *text)
 {
@@ -79,6 +81,15 @@ static void show_found(tl_found f)
     show_buffer(&area, len);
 }
 
+/* The reading in decimal digits that tell it from its neighbours, and its 64 bits. */
+static void show_certified(tl_certified c)
+{
+    uint64_t bits;
+    memcpy(&bits, &c.reading, sizeof bits);
+    printf("  number %" PRIu32 ", pass %" PRIu32 ", reading %.17g, bits %016" PRIx64 "\n", c.number, c.pass, c.reading, bits);
+    show_buffer(&area, len);
+}
+
 static void keep(void)
 {
     memcpy(area.before, area.now, SPACE);
@@ -115,14 +126,14 @@ static void add(uint32_t tag, size_t n, bool use_voids)
 {
     printf("tl_add: tag 0x%" PRIx32 ", %zu bytes, voids %s\n", tag, n, use_voids ? "yes" : "no");
     keep();
-    show_done(tl_add(area.now, len, base, tag, n == 0 ? NULL : data, n, use_voids));
+    show_done(tl_add(area.now, len, base, tag, n == 0 ? NULL : source, n, use_voids));
 }
 
 static void add_aligned(uint32_t tag, size_t n, uint32_t exponent)
 {
     printf("tl_add_aligned: tag 0x%" PRIx32 ", %zu bytes, exponent %" PRIu32 "\n", tag, n, exponent);
     keep();
-    show_done(tl_add_aligned(area.now, len, base, tag, n == 0 ? NULL : data, n, exponent));
+    show_done(tl_add_aligned(area.now, len, base, tag, n == 0 ? NULL : source, n, exponent));
 }
 
 static void strike(uint32_t tag, uint64_t n)
@@ -146,6 +157,13 @@ static void relocate(size_t target_len, uint64_t target_base)
     keep();
     show_done(tl_relocate(area.now, len, base, target.now, target_len, target_base));
     show_buffer(&target, target_len);
+}
+
+static void certificate(uint64_t serial, uint64_t test)
+{
+    printf("tl_certificate: %zu bytes at 0x%" PRIx64 ", serial 0x%" PRIx64 ", test 0x%" PRIx64 "\n", len, base, serial, test);
+    keep();
+    show_certified(tl_certificate(len == 0 ? NULL : area.now, len, base, serial, test));
 }
 
 static void check09(void)
@@ -856,6 +874,464 @@ static void tidy_refusals(void)
     tidy();
 }
 
+/* The list that the certificates below are in has the one entry, no has_checksum, and no byte to spare. Where its fields are: */
+enum { CERTIFICATE_LEN = 88, KIND = 48, COUNTS = 52, GAIN = 56, OFFSET = 64, LOW = 72, HIGH = 80 };
+static const uint8_t heads[32] = {0x0b, 0xb1, 0x0f, 0x4a, 0x00, 0x01, 0x18, 0x03, 0x58, 0x00, 0x00, 0x00, 0x58, 0x00, 0x00, 0x00,
+                                  0x00, 0x00, 0x00, 0x00, 0x00, 0x00, 0x00, 0x00, 0x10, 0xf0, 0xff, 0x08, 0x38, 0x00, 0x00, 0x00};
+
+#define SERIAL UINT64_C(0x8807060504030201)
+#define TEST UINT64_C(0x9817161514131211)
+enum { BAND = 1, CEILING = 2, FLOOR = 3 };
+
+/* a band from 800 to 1000, 4000 counts, gain 0.25, offset -100; then a byte more */
+static const uint8_t sound[57] = {0x01, 0x02, 0x03, 0x04, 0x05, 0x06, 0x07, 0x88, 0x11, 0x12, 0x13, 0x14, 0x15, 0x16, 0x17,
+                                  0x98, 0x01, 0x00, 0x00, 0x00, 0xa0, 0x0f, 0x00, 0x00, 0x00, 0x00, 0x00, 0x00, 0x00, 0x00,
+                                  0xd0, 0x3f, 0x00, 0x00, 0x00, 0x00, 0x00, 0x00, 0x59, 0xc0, 0x00, 0x00, 0x00, 0x00, 0x00,
+                                  0x00, 0x89, 0x40, 0x00, 0x00, 0x00, 0x00, 0x00, 0x40, 0x8f, 0x40, 0x5a};
+
+/* the same in a list of edition 0.9 */
+static const uint8_t sound09[80] = {0xff, 0xd0, 0x6e, 0x00, 0xa8, 0x01, 0x10, 0x03, 0x50, 0x00, 0x00, 0x00, 0x50, 0x00, 0x00, 0x00,
+                                    0x10, 0xf0, 0xff, 0x08, 0x38, 0x00, 0x00, 0x00, 0x01, 0x02, 0x03, 0x04, 0x05, 0x06, 0x07, 0x88,
+                                    0x11, 0x12, 0x13, 0x14, 0x15, 0x16, 0x17, 0x98, 0x01, 0x00, 0x00, 0x00, 0xa0, 0x0f, 0x00, 0x00,
+                                    0x00, 0x00, 0x00, 0x00, 0x00, 0x00, 0xd0, 0x3f, 0x00, 0x00, 0x00, 0x00, 0x00, 0x00, 0x59, 0xc0,
+                                    0x00, 0x00, 0x00, 0x00, 0x00, 0x00, 0x89, 0x40, 0x00, 0x00, 0x00, 0x00, 0x00, 0x40, 0x8f, 0x40};
+
+/* Numbers one step off. */
+static const double above_900 = 900.0000000000001, below_900 = 899.9999999999999, above_1000 = 1000.0000000000001;
+static const double above_1 = 1.0000000000000002;
+/* Numbers that no float and no reading may be: infinite, negative infinite, two that are no number. */
+static const uint64_t not_finite[4] = {UINT64_C(0x7ff0000000000000), UINT64_C(0xfff0000000000000), UINT64_C(0x7ff8000000000000),
+                                       UINT64_C(0xfff0000000000001)};
+
+static void write_number(size_t at, size_t n, uint64_t number)
+{
+    for (size_t i = 0; i < n; i++)
+        area.now[at + i] = (uint8_t)(number >> 8 * i);
+}
+
+static void write_float(size_t at, double number)
+{
+    uint64_t bits;
+    memcpy(&bits, &number, sizeof bits);
+    write_number(at, 8, bits);
+}
+
+/* Not a call: a number in the area. */
+static void put_number(size_t at, size_t n, uint64_t number)
+{
+    printf("by hand: %zu bytes from %zu on are 0x%" PRIx64 "\n", n, at, number);
+    write_number(at, n, number);
+}
+
+/* Not a call: the list with this certificate. */
+static void put_certificate(uint32_t kind, uint32_t counts, double gain, double offset, double low, double high)
+{
+    len = CERTIFICATE_LEN;
+    base = 0x1000;
+    memset(area.now, 0xee, SPACE);
+    memcpy(area.now, heads, sizeof heads);
+    memcpy(area.now + sizeof heads, sound, 16);
+    write_number(KIND, 4, kind);
+    write_number(COUNTS, 4, counts);
+    write_float(GAIN, gain);
+    write_float(OFFSET, offset);
+    write_float(LOW, low);
+    write_float(HIGH, high);
+    printf("by hand: a certificate: kind %" PRIu32 ", counts %" PRIu32 ", gain %.17g, offset %.17g", kind, counts, gain, offset);
+    printf(", low %.17g, high %.17g\n", low, high);
+}
+
+static void judge(uint32_t kind, uint32_t counts, double gain, double offset, double low, double high)
+{
+    put_certificate(kind, counts, gain, offset, low, high);
+    certificate(SERIAL, TEST);
+}
+
+/* A certificate that reads 900 within its gate, but for one number of n bytes. */
+static void judge_but(uint32_t kind, size_t at, size_t n, uint64_t number)
+{
+    put_certificate(kind, 4000, 0.25, -100, kind == CEILING ? 0 : 800, kind == FLOOR ? 0 : 1000);
+    put_number(at, n, number);
+    certificate(SERIAL, TEST);
+}
+
+static void certificate_gates(void)
+{
+    title("certificate: gain 0.25, offset -100, counts 4000 reads exactly 900");
+    put_certificate(BAND, 4000, 0.25, -100, 800, 1000);
+    show_hex(area.now, len);
+    check();
+    find(TL_TAG_CERTIFICATE, 0);
+    certificate(SERIAL, TEST);
+    title("certificate, a band: a limit that is just met is a pass, one missed by one step a fail");
+    judge(BAND, 4000, 0.25, -100, 900, 1000);
+    judge(BAND, 4000, 0.25, -100, above_900, 1000);
+    judge(BAND, 4000, 0.25, -100, below_900, 1000);
+    judge(BAND, 4000, 0.25, -100, 800, 900);
+    judge(BAND, 4000, 0.25, -100, 800, below_900);
+    judge(BAND, 4000, 0.25, -100, 800, above_900);
+    judge(BAND, 4000, 0.25, -100, 900, 900);
+    judge(BAND, 4000, 0.25, -100, below_900, below_900);
+    title("certificate, a ceiling, likewise; below 0");
+    judge(CEILING, 4000, 0.25, -100, 0, 900);
+    judge(CEILING, 4000, 0.25, -100, 0, below_900);
+    judge(CEILING, 4000, 0.25, -100, 0, above_900);
+    judge(CEILING, 0, 0.25, -100, 0, -100);
+    judge(CEILING, 1, 0.25, -100, 0, -100);
+    title("certificate, a floor, likewise; below 0");
+    judge(FLOOR, 4000, 0.25, -100, 900, 0);
+    judge(FLOOR, 4000, 0.25, -100, above_900, 0);
+    judge(FLOOR, 4000, 0.25, -100, below_900, 0);
+    judge(FLOOR, 0, 0.25, -100, -100, 0);
+    judge(FLOOR, 0, 0.25, -101, -100, 0);
+    title("certificate: a gate's limit may be 0 or -0, which are equal; a reading is never -0; a fail may read 0 too");
+    judge(BAND, 400, 0.25, -100, 0.0, -0.0);
+    judge(BAND, 400, 0.25, -100, -0.0, 0.0);
+    judge(CEILING, 0, 0.25, -0.0, 0, -0.0);
+    judge(CEILING, 400, 0.25, -100, 0, 0);
+    judge(CEILING, 4000, 0.25, -100, 0, 0);
+    judge(FLOOR, 0, 0.25, -0.0, -0.0, 0);
+    judge(FLOOR, 400, 0.25, -100, 0, 0);
+    judge(FLOOR, 0, 0.25, -100, 0, 0);
+    judge(FLOOR, 400, 0.25, -100, 1, 0);
+}
+
+static void certificate_readings(void)
+{
+    title("certificate: the product is rounded and then the sum: 2^-54 and 0, where one rounding would give 2^-55 and 2^-54");
+    judge(FLOOR, 3, 0.1, -0.3, 0, 0);
+    judge(FLOOR, 10, 0.1, -1, 0, 0);
+    title("certificate: each to the nearest, a tie to the even one: the product");
+    judge(FLOOR, 3, above_1, 0, 0, 0);
+    judge(FLOOR, 5, above_1, 0, 0, 0);
+    judge(FLOOR, 6, above_1, 0, 0, 0);
+    judge(FLOOR, 7, above_1, 0, 0, 0);
+    judge(FLOOR, 16777215, 0.1, 0, 0, 0);
+    title("certificate: the sum, with 2^-53, one step more, and -2^-54");
+    judge(FLOOR, 1, 1, 1.1102230246251565e-16, 0, 0);
+    judge(FLOOR, 1, above_1, 1.1102230246251565e-16, 0, 0);
+    judge(FLOOR, 1, 1, 1.1102230246251568e-16, 0, 0);
+    judge(FLOOR, 1, 1, -5.551115123125783e-17, 0, 0);
+    title("certificate: the least numbers are not taken for 0, as gain, offset, limit and reading");
+    judge(CEILING, 1, 4.9406564584124654e-324, 0, 0, 4.9406564584124654e-324);
+    judge(CEILING, 1, 4.9406564584124654e-324, 0, 0, 0);
+    judge(FLOOR, 16777216, 4.9406564584124654e-324, 0, 0, 0);
+    judge(BAND, 1, DBL_MIN, -2.225073858507201e-308, 4.9406564584124654e-324, 4.9406564584124654e-324);
+    judge(FLOOR, 0, 4.9406564584124654e-324, -4.9406564584124654e-324, 0, 0);
+    title("certificate: the greatest numbers, a sum and a product just under and just over; 20 also where the product alone is infinite");
+    judge(CEILING, 1, DBL_MAX, 0, 0, DBL_MAX);
+    judge(CEILING, 1, DBL_MAX, 9.979201547673598e+291, 0, DBL_MAX);
+    judge(CEILING, 1, DBL_MAX, 9.9792015476736e+291, 0, DBL_MAX);
+    judge(CEILING, 16777216, 1.0715086071862672e+301, 0, 0, DBL_MAX);
+    judge(CEILING, 16777216, 1.0715086071862673e+301, 0, 0, DBL_MAX);
+    judge(CEILING, 2, DBL_MAX, -DBL_MAX, 0, DBL_MAX);
+    judge(CEILING, 1, DBL_MAX, -DBL_MAX, 0, 0);
+    judge(FLOOR, 0, DBL_MAX, -DBL_MAX, -DBL_MAX, 0);
+}
+
+static void certificate_contents(void)
+{
+    title("certificate, 20 CONTENTS: the kind, all four bytes of it");
+    judge_but(BAND, KIND, 4, 0);
+    judge_but(BAND, KIND, 4, 4);
+    judge_but(BAND, KIND, 4, 257);
+    judge_but(CEILING, KIND, 4, 0x10002);
+    judge_but(FLOOR, KIND, 4, 0x1000003);
+    judge_but(BAND, KIND, 4, 0xffffffff);
+    title("certificate: counts of 2^24 are read, 2^24 + 1 are 20 CONTENTS");
+    judge_but(BAND, COUNTS, 4, 0x1000000);
+    judge_but(BAND, COUNTS, 4, 0x1000001);
+    judge_but(BAND, COUNTS, 4, 0xffffffff);
+    title("certificate, 20 CONTENTS: gain 0, -0, -0.25, the least below 0; the least above 0 is read; not finite");
+    judge_but(BAND, GAIN, 8, 0);
+    judge_but(BAND, GAIN, 8, UINT64_C(0x8000000000000000));
+    judge_but(BAND, GAIN, 8, UINT64_C(0xbfd0000000000000));
+    judge_but(BAND, GAIN, 8, UINT64_C(0x8000000000000001));
+    judge_but(BAND, GAIN, 8, 1);
+    for (size_t i = 0; i < 4; i++)
+        judge_but(BAND, GAIN, 8, not_finite[i]);
+    title("certificate, 20 CONTENTS: offset not finite; the greatest is read");
+    for (size_t i = 0; i < 4; i++)
+        judge_but(BAND, OFFSET, 8, not_finite[i]);
+    judge_but(BAND, OFFSET, 8, UINT64_C(0x7fefffffffffffff));
+    title("certificate, 20 CONTENTS: a used limit not finite: a band's low, a band's high, a ceiling's, a floor's");
+    for (size_t i = 0; i < 4; i++)
+        judge_but(BAND, LOW, 8, not_finite[i]);
+    for (size_t i = 0; i < 4; i++)
+        judge_but(BAND, HIGH, 8, not_finite[i]);
+    for (size_t i = 0; i < 4; i++)
+        judge_but(CEILING, HIGH, 8, not_finite[i]);
+    for (size_t i = 0; i < 4; i++)
+        judge_but(FLOOR, LOW, 8, not_finite[i]);
+    title("certificate, 20 CONTENTS: an unused limit -0, or with any byte not 0, or not finite: a ceiling's low, a floor's high");
+    for (size_t at = LOW; at <= HIGH; at += 8) {
+        uint32_t kind = at == LOW ? CEILING : FLOOR;
+        judge_but(kind, at, 8, UINT64_C(0x8000000000000000));
+        for (size_t i = 0; i < 8; i++)
+            judge_but(kind, at + i, 1, 1);
+        for (size_t i = 0; i < 4; i++)
+            judge_but(kind, at, 8, not_finite[i]);
+    }
+    title("certificate, 20 CONTENTS: a band's low one step over its high, below 0, at 0; equal they are read");
+    judge(BAND, 4000, 0.25, -100, above_1000, 1000);
+    judge(BAND, 4000, 0.25, -100, 1000, 1000);
+    judge(BAND, 4000, 0.25, -100, -800, -1000);
+    judge(BAND, 4000, 0.25, -100, -1000, -800);
+    judge(BAND, 400, 0.25, -100, 4.9406564584124654e-324, -0.0);
+    judge(BAND, 400, 0.25, -100, 0, -4.9406564584124654e-324);
+    judge(BAND, 4000, 0.25, -100, DBL_MAX, -DBL_MAX);
+    judge(BAND, 4000, 0.25, -100, -DBL_MAX, DBL_MAX);
+}
+
+static void certificate_identity(void)
+{
+    static const int bits[4] = {0, 31, 32, 63};
+    title("certificate, 19 IDENTITY: one bit of the serial or of the test, in its lower and in its upper half; one for the other");
+    put_certificate(BAND, 4000, 0.25, -100, 800, 1000);
+    for (size_t i = 0; i < 4; i++) {
+        certificate(SERIAL ^ (uint64_t)1 << bits[i], TEST);
+        certificate(SERIAL, TEST ^ (uint64_t)1 << bits[i]);
+    }
+    certificate(TEST, SERIAL);
+    certificate(0, 0);
+    title("certificate: 19 comes before 20");
+    put_number(KIND, 4, 4);
+    certificate(SERIAL, TEST + 1);
+    certificate(SERIAL, TEST);
+    title("certificate: serial and test 0, and 2^64 - 1, are numbers as others");
+    put_certificate(BAND, 4000, 0.25, -100, 800, 1000);
+    put(32, 16, 0);
+    certificate(0, 0);
+    put(32, 16, 0xff);
+    certificate(UINT64_MAX, UINT64_MAX);
+    certificate(SERIAL, TEST);
+}
+
+/* An entry of tag 0xfff001 with the first n bytes of the certificate, and then, by hand, of tag 0xfff010: the adds take no such length. */
+static void add_wrong_length(size_t at, size_t n)
+{
+    add(0xfff001, n, false);
+    put(at, 1, 0x10);
+}
+
+/* Not a call: the certificate's entry in the area. */
+static void put_entry(size_t at)
+{
+    printf("by hand: a certificate's entry from %zu on\n", at);
+    memcpy(area.now + at, heads + 24, 8);
+    memcpy(area.now + at + 8, sound, 56);
+}
+
+static void certificate_one(void)
+{
+    source = sound;
+    title("certificate, 18 CERTIFICATE: no entry; none with this tag");
+    create(256, 0x1000, true);
+    certificate(SERIAL, TEST);
+    add(0xfff011, 56, false);
+    add(0x7ff010, 56, false);
+    add(0x10, 56, false);
+    certificate(SERIAL, TEST);
+    title("certificate, 18 CERTIFICATE: two; voids do not count, and neither does what a void has for data");
+    create(160, 0x1000, true);
+    add(TL_TAG_CERTIFICATE, 56, false);
+    certificate(SERIAL, TEST);
+    add(TL_TAG_CERTIFICATE, 56, false);
+    certificate(SERIAL, TEST);
+    strike(TL_TAG_CERTIFICATE, 0);
+    certificate(SERIAL, TEST);
+    tidy();
+    certificate(SERIAL, TEST);
+    add(TL_TAG_CERTIFICATE, 56, true);
+    certificate(SERIAL, TEST);
+    strike(TL_TAG_CERTIFICATE, 1);
+    certificate(SERIAL, TEST);
+    strike(TL_TAG_CERTIFICATE, 0);
+    certificate(SERIAL, TEST);
+    put_certificate(BAND, 4000, 0.25, -100, 800, 1000);
+    put(24, 3, 0);
+    check();
+    certificate(SERIAL, TEST);
+    title("certificate, 18 CERTIFICATE: one of 56 and one of 12, either first");
+    create(128, 0x1000, false);
+    add(TL_TAG_CERTIFICATE, 56, false);
+    add_wrong_length(88, 12);
+    certificate(SERIAL, TEST);
+    create(128, 0x1000, false);
+    add_wrong_length(24, 12);
+    add(TL_TAG_CERTIFICATE, 56, false);
+    certificate(SERIAL, TEST);
+    title("certificate, 18 CERTIFICATE: one of 55, 57 and 0; it comes before 19");
+    create(96, 0x1000, false);
+    add_wrong_length(24, 55);
+    check();
+    certificate(SERIAL, TEST);
+    create(96, 0x1000, false);
+    add_wrong_length(24, 57);
+    certificate(SERIAL, TEST);
+    certificate(SERIAL + 1, TEST);
+    create(96, 0x1000, false);
+    add_wrong_length(24, 0);
+    certificate(0, 0);
+    title("certificate: 65,536 bytes that end at 2^48, the certificate last, behind voids; then 18, another one first");
+    create(65536, TOP - 65536, true);
+    put_voids(24, 8181);
+    put_entry(65472);
+    put(8, 1, 0x00);
+    put(10, 1, 0x01);
+    put(4, 1, 0x5d);
+    check();
+    certificate(SERIAL, TEST);
+    put_entry(24);
+    put(4, 1, 0xec);
+    check();
+    certificate(SERIAL, TEST);
+    source = data;
+}
+
+static void certificate_refusals(void)
+{
+    title("certificate, 8 ENTRY: a data_size that exceeds used_size; 7, 6, 4, 3, 2 and 1 each come before it, the lower number first");
+    put_certificate(4, 4000, 0.25, -100, 800, 1000);
+    put(28, 1, 57);
+    certificate(SERIAL, TEST);
+    put(4, 1, 1);
+    certificate(SERIAL, TEST);
+    put(7, 1, 2);
+    certificate(SERIAL, TEST);
+    put(5, 1, 2);
+    certificate(SERIAL, TEST);
+    put(5, 1, 0);
+    certificate(SERIAL, TEST);
+    put(0, 1, 0x0a);
+    certificate(SERIAL, TEST);
+    len = 23;
+    certificate(SERIAL, TEST);
+    base = 0x1004;
+    certificate(SERIAL, TEST);
+    title("certificate without an area: 1 AREA where the base is no multiple of 8, else 2 SHORT; too long, 1 AREA");
+    len = 0;
+    certificate(SERIAL, TEST);
+    base = 0x1000;
+    certificate(SERIAL, TEST);
+    len = 65537;
+    certificate(SERIAL, TEST);
+    title("certificate, 1 AREA: an area may end at 2^48, and not 8 bytes above; no sum wraps; 6 SIZES: the area is too short");
+    put_certificate(BAND, 4000, 0.25, -100, 800, 1000);
+    base = TOP - 88;
+    certificate(SERIAL, TEST);
+    base = TOP - 80;
+    certificate(SERIAL, TEST);
+    base = UINT64_MAX - 87;
+    certificate(SERIAL, TEST);
+    base = 0x1000;
+    len = 87;
+    certificate(SERIAL, TEST);
+    title("certificate, 7 CHECKSUM: one bit of the serial damaged, which is the one asked for");
+    source = sound;
+    create(88, 0x1000, true);
+    add(TL_TAG_CERTIFICATE, 56, false);
+    source = data;
+    put(32, 1, 0);
+    certificate(SERIAL - 1, TEST);
+    title("certificate, 3 SIGNATURE: of a list of edition 0.9; converted, it is read");
+    list09(sound09, 80, 80, 0x1000);
+    certificate(SERIAL, TEST);
+    convert09(96, 0x2000);
+    go_on(96, 0x2000, 0);
+    certificate(SERIAL, TEST);
+    title("certificate: relocated, it is read");
+    relocate(96, 0x3001);
+    go_on(96, 0x3001, 7);
+    certificate(SERIAL, TEST);
+}
+
+/* Not a call: a list of this version and hdr_size, its one entry the certificate, with this hdr_size. What the headers have more is c1. */
+static void put_later(uint8_t version, uint8_t hdr_size, uint8_t entry_hdr_size)
+{
+    size_t first = (hdr_size + 7u) / 8 * 8, used = (first + entry_hdr_size + 56 + 7) / 8 * 8;
+    memset(area.now, 0xee, SPACE);
+    memset(area.now, 0xc1, used);
+    memcpy(area.now, heads, 24);
+    memcpy(area.now + first, heads + 24, 8);
+    memcpy(area.now + first + entry_hdr_size, sound, 56);
+    area.now[5] = version;
+    area.now[6] = hdr_size;
+    area.now[first + 3] = entry_hdr_size;
+    write_number(8, 4, used);
+    write_number(12, 4, used);
+    len = used;
+    base = 0x1000;
+    printf("by hand: version %u, hdr_size %u, a certificate with hdr_size %u\n", version, hdr_size, entry_hdr_size);
+    show_hex(area.now, used);
+}
+
+static void certificate_versions(void)
+{
+    title("certificate: version 2, an entry's hdr_size 9: the data are from 33 on; with a checksum too");
+    put_later(2, 24, 9);
+    check();
+    find(TL_TAG_CERTIFICATE, 0);
+    certificate(SERIAL, TEST);
+    certificate(SERIAL ^ (uint64_t)1 << 63, TEST);
+    put(16, 1, 1);
+    certificate(SERIAL, TEST);
+    put(4, 1, 0x57);
+    certificate(SERIAL, TEST);
+    title("certificate: version 2 as version 1; version 5 with longer headers; version 255 with the longest");
+    put_later(2, 24, 8);
+    certificate(SERIAL, TEST);
+    put_later(5, 25, 15);
+    certificate(SERIAL, TEST);
+    put(63, 1, 4);
+    certificate(SERIAL, TEST);
+    put_later(255, 255, 255);
+    certificate(SERIAL, TEST);
+    title("certificate: an entry's hdr_size of 9 in version 1 and of 7 in version 2 are 8 ENTRY");
+    put_later(1, 24, 9);
+    certificate(SERIAL, TEST);
+    put_later(2, 24, 8);
+    put(27, 1, 7);
+    certificate(SERIAL, TEST);
+}
+
+static void certificate_adds(void)
+{
+    source = sound;
+    title("certificate, tag 0xfff010: 0, 55 and 57 bytes are SHAPE, 56 are added, by either add; the tags beside it take any length");
+    create(256, 0x1000, true);
+    add(TL_TAG_CERTIFICATE, 0, false);
+    add(TL_TAG_CERTIFICATE, 55, false);
+    add(TL_TAG_CERTIFICATE, 57, false);
+    add(TL_TAG_CERTIFICATE, 56, false);
+    certificate(SERIAL, TEST);
+    add_aligned(TL_TAG_CERTIFICATE, 0, 4);
+    add_aligned(TL_TAG_CERTIFICATE, 55, 4);
+    add_aligned(TL_TAG_CERTIFICATE, 57, 4);
+    add_aligned(TL_TAG_CERTIFICATE, 56, 4);
+    certificate(SERIAL, TEST);
+    add(0xfff00f, 55, false);
+    add_aligned(0xfff011, 0, 3);
+    title("certificate: SHAPE though a void serves, and before ALIGN and ROOM");
+    create(88, 0x1000, true);
+    add(TL_TAG_CERTIFICATE, 56, false);
+    add(TL_TAG_CERTIFICATE, 55, false);
+    add(TL_TAG_CERTIFICATE, 56, false);
+    add_aligned(TL_TAG_CERTIFICATE, 57, 13);
+    add_aligned(TL_TAG_CERTIFICATE, 56, 13);
+    strike(TL_TAG_CERTIFICATE, 0);
+    add(TL_TAG_CERTIFICATE, 55, true);
+    add(TL_TAG_CERTIFICATE, 56, true);
+    certificate(SERIAL, TEST);
+    title("certificate: the adds do not judge what it says");
+    source = zeros;
+    create(88, 0x1000, true);
+    add(TL_TAG_CERTIFICATE, 56, false);
+    certificate(SERIAL, TEST);
+    certificate(0, 0);
+    source = data;
+}
+
 int main(void)
 {
     examples_a_to_h();
@@ -869,5 +1345,13 @@ int main(void)
     tidy_kept();
     tidy_for_room();
     tidy_refusals();
+    certificate_gates();
+    certificate_readings();
+    certificate_contents();
+    certificate_identity();
+    certificate_one();
+    certificate_refusals();
+    certificate_versions();
+    certificate_adds();
     return 0;
 }

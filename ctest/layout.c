@@ -1,4 +1,6 @@
 /* The layout of the header's structures and the numbers of its refusals, checked by the compiler; nothing is run. */
+#include <float.h>
+
 #include "transfer_list.h"
 
 #if defined(__cplusplus)
@@ -10,7 +12,8 @@
 #endif
 
 #define SIZE(type, size) HOLDS(type##_whole, sizeof(type) == (size))
-#define FIELD(type, field, at) HOLDS(type##_##field, offsetof(type, field) == (at) && sizeof(((type *)0)->field) == 4)
+#define FIELD_OF(size, type, field, at) HOLDS(type##_##field, offsetof(type, field) == (at) && sizeof(((type *)0)->field) == (size))
+#define FIELD(type, field, at) FIELD_OF(4, type, field, at)
 #define NUMBER(name, number) HOLDS(name##_number, name == (number))
 
 SIZE(tl_checked, 28);
@@ -31,6 +34,15 @@ SIZE(tl_done, 8);
 FIELD(tl_done, number, 0);
 FIELD(tl_done, value, 4);
 
+SIZE(tl_certified, 16);
+FIELD(tl_certified, number, 0);
+FIELD(tl_certified, pass, 4);
+FIELD_OF(8, tl_certified, reading, 8);
+
+/* the reading is an IEEE 754 number of 64 bits */
+SIZE(double, 8);
+HOLDS(double_digits, FLT_RADIX == 2 && DBL_MANT_DIG == 53 && DBL_MIN_EXP == -1021 && DBL_MAX_EXP == 1024);
+
 NUMBER(TL_ACCEPTED, 0);
 NUMBER(TL_AREA, 1);
 NUMBER(TL_SHORT, 2);
@@ -46,3 +58,7 @@ NUMBER(TL_ALIGN, 11);
 NUMBER(TL_TARGET, 12);
 NUMBER(TL_NONE, 13);
 NUMBER(TL_ROOM, 14);
+NUMBER(TL_CERTIFICATE, 18);
+NUMBER(TL_IDENTITY, 19);
+NUMBER(TL_CONTENTS, 20);
+NUMBER(TL_TAG_CERTIFICATE, 0xfff010);

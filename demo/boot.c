@@ -1,7 +1,8 @@
 /*
  * The boot of a test bench's controller, in four stages, each in its own area at its own address. Each stage checks the list that it is
- * handed, finds what it needs, edits, and relocates the list to the next. Run for several valves; then again with one bit damaged at a
- * time, where the stage must stop with the refusal's number and never go on with anything older.
+ * handed, finds what it needs, edits, and relocates the list to the next; the last one signs the valve's test certificate. Run for
+ * several valves: one passes, one fails, and the certificate of one is refused. Then again with one bit damaged at a time, where the stage
+ * must stop with the refusal's number and never go on with anything older.
  */
 #include <stdio.h>
 #include <string.h>
@@ -9,8 +10,22 @@
 #include "table.h"
 #include "transfer_list.h"
 
-enum { DEVICE_TREE = 1, CALIBRATION = 0xfff001, TICKET = 0xfff002, READING = 0xfff003 };
-enum { STAGES = 4, AREA_LEN = 1024, VALVES = 3 };
+enum { DEVICE_TREE = 1, CALIBRATION = 0xfff001, TICKET = 0xfff002 };
+enum { STAGES = 4, AREA_LEN = 1024, VALVES = 3, NUMBERS = TL_CONTENTS + 1 };
+enum { BAND = 1, CEILING = 2 };
+
+/* What the bench does with a valve: the gate that it is to lift in, and what the gauge counted when it lifted. */
+static const struct {
+    uint32_t kind, counts;
+    double low, high;
+    const char *what;
+} tests[VALVES + 1] = {{BAND, 4000, 880, 920, ""},
+                       {BAND, 4000, 880, 920, "4000 counts, to lift between 880 and 920"},
+                       {BAND, 4200, 880, 920, "4200 counts, to lift between 880 and 920"},
+                       {CEILING, 4000, 880, 920, "4000 counts, to lift by 920, a low limit left in"}};
+
+static uint64_t serial_of(int valve) { return 5500 + (uint64_t)valve; }
+static uint64_t test_of(int valve) { return 70 + (uint64_t)valve; }
 
 /* A stage's memory. The list starts at `shift` bytes into it: relocation keeps data aligned. */
 typedef struct {
@@ -28,7 +43,7 @@ static uint8_t *list_of(stage *s) { return s->area + s->shift; }
 static size_t length_of(const stage *s) { return AREA_LEN - s->shift; }
 static uint64_t base_of(const stage *s) { return s->base + s->shift; }
 
-static unsigned refusals[15];
+static unsigned refusals[NUMBERS], verdicts[2]; /* how often each stopped a stage; how many certificates failed and passed */
 
 /* Says that a stage stopped, and counts the refusal. Quiet in the damaged runs. */
 static int stopped(const stage *s, uint32_t number, int quiet)
@@ -73,11 +88,37 @@ static void line(const stage *s, const char *what, int quiet)
                (unsigned)c.used, (unsigned)c.live, (unsigned)c.voids, s->area[s->shift + 4]);
 }
 
-/* Stage 1: a new list with the device tree, the calibration, the last valve's ticket and its reading. */
+static void put_number(uint8_t *to, uint64_t number, int width)
+{
+    for (int i = 0; i < width; i++)
+        to[i] = (uint8_t)(number >> 8 * i);
+}
+
+static void put_float(uint8_t *to, double number)
+{
+    uint64_t bits;
+    memcpy(&bits, &number, sizeof bits);
+    put_number(to, bits, 8);
+}
+
+/* The 56 bytes of a valve's certificate. The calibration is the gauge's 16 bytes, gain and offset together. */
+static void write_certificate(uint8_t to[56], int valve, const uint8_t *calibration)
+{
+    put_number(to, serial_of(valve), 8);
+    put_number(to + 8, test_of(valve), 8);
+    put_number(to + 16, tests[valve].kind, 4);
+    put_number(to + 20, tests[valve].counts, 4);
+    memcpy(to + 24, calibration, 16);
+    put_float(to + 40, tests[valve].low);
+    put_float(to + 48, tests[valve].high);
+}
+
+/* Stage 1: a new list with the device tree, the gauge's calibration, the last valve's ticket and its certificate. */
 static int loader(stage *s, int valve, int quiet)
 {
     static const uint8_t device_tree[40] = {0xd0, 0x0d, 0xfe, 0xed, 0, 0, 0, 40};
     static const uint8_t calibration[16] = {0, 0, 0, 0, 0, 0, 0xd0, 0x3f, 0, 0, 0, 0, 0, 0, 0x59, 0xc0}; /* gain 0.25, offset -100 */
+    uint8_t certificate[56];
     char ticket[64];
     s->shift = 0;
     tl_done d = tl_create(s->area, AREA_LEN, s->base, true);
@@ -87,10 +128,11 @@ static int loader(stage *s, int valve, int quiet)
     if (d.number != 0)
         return stopped(s, d.number, quiet);
     snprintf(ticket, sizeof ticket, "valve %d, relief, bench 2, north field", valve - 1);
+    write_certificate(certificate, valve - 1, calibration);
     if (!add(s, CALIBRATION, calibration, sizeof calibration, quiet) || !add(s, TICKET, ticket, strlen(ticket), quiet)
-        || !add(s, READING, "lifts at 0.0", 12, quiet))
+        || !add(s, TL_TAG_CERTIFICATE, certificate, sizeof certificate, quiet))
         return 0;
-    line(s, "list made, with the last valve's ticket", quiet);
+    line(s, "list made, with the last ticket and certificate", quiet);
     return 1;
 }
 
@@ -105,36 +147,42 @@ static int supervisor(stage *s, int valve, int quiet)
     return 1;
 }
 
-/* Stage 3: finds ticket and calibration, and puts in the reading. */
+/* Stage 3: finds ticket and calibration, and puts the valve's certificate in the place of the last one's. */
 static int bench(stage *s, int valve, int quiet)
 {
-    char reading[32];
+    uint8_t certificate[56];
     tl_found f = tl_find(list_of(s), length_of(s), base_of(s), TICKET, 0);
     if (f.number != 0)
         return stopped(s, f.number, quiet);
     f = tl_find(list_of(s), length_of(s), base_of(s), CALIBRATION, 0);
     if (f.number != 0)
         return stopped(s, f.number, quiet);
-    snprintf(reading, sizeof reading, "lifts at %d.5", 8 + valve);
-    if (!replace(s, READING, reading, strlen(reading), quiet))
+    if (f.size != 16) { /* gain and offset */
+        if (!quiet)
+            printf("  %-10s stops: the calibration has not 16 bytes\n", s->name);
         return 0;
-    line(s, "reading put in", quiet);
+    }
+    write_certificate(certificate, valve, tl_data(list_of(s), f));
+    if (!replace(s, TL_TAG_CERTIFICATE, certificate, sizeof certificate, quiet))
+        return 0;
+    line(s, tests[valve].what, quiet);
     return 1;
 }
 
-/* Stage 4: signs what the list says, of the valve that the ticket names. */
-static int signer(stage *s, int quiet)
+/* Stage 4: signs the certificate of this valve and test, as passed or as failed. Only the number says whether it is refused. */
+static int signer(stage *s, int valve, int quiet)
 {
     tl_found ticket = tl_find(list_of(s), length_of(s), base_of(s), TICKET, 0);
     if (ticket.number != 0)
         return stopped(s, ticket.number, quiet);
-    tl_found reading = tl_find(list_of(s), length_of(s), base_of(s), READING, 0);
-    if (reading.number != 0)
-        return stopped(s, reading.number, quiet);
-    line(s, "signed", quiet);
+    tl_certified c = tl_certificate(list_of(s), length_of(s), base_of(s), serial_of(valve), test_of(valve));
+    if (c.number != 0)
+        return stopped(s, c.number, quiet);
+    verdicts[c.pass]++;
+    line(s, "certificate read and signed", quiet);
     if (!quiet)
-        printf("  signed: %.*s: %.*s\n", (int)ticket.size, (const char *)tl_data(list_of(s), ticket), (int)reading.size,
-               (const char *)tl_data(list_of(s), reading));
+        printf("  signed: %.*s, serial %u, test %u: lifts at %.1f, %s\n", (int)ticket.size, (const char *)tl_data(list_of(s), ticket),
+               (unsigned)serial_of(valve), (unsigned)test_of(valve), c.reading, c.pass ? "PASSED" : "FAILED");
     return 1;
 }
 
@@ -144,7 +192,7 @@ static int run_stage(int i, int valve, int quiet)
     case 0: return loader(&stages[0], valve, quiet);
     case 1: return supervisor(&stages[1], valve, quiet);
     case 2: return bench(&stages[2], valve, quiet);
-    default: return signer(&stages[3], quiet);
+    default: return signer(&stages[3], valve, quiet);
     }
 }
 
@@ -173,14 +221,16 @@ int main(void)
 {
     for (int valve = 1; valve <= VALVES; valve++) {
         printf("valve %d\n", valve);
-        if (!boot(valve, STAGES, 0, 0, 0))
-            return 1;
+        boot(valve, STAGES, 0, 0, 0);
         if (valve == 1) {
             printf("\nwhat the signer was handed:\n  ");
             print_list(list_of(&stages[3]), length_of(&stages[3]), base_of(&stages[3]));
             printf("\n");
         }
     }
+    printf("its certificate asked for before the bench has put it in, while the list has the last valve's\n");
+    signer(&stages[1], VALVES, 0);
+    int right = verdicts[1] == 1 && verdicts[0] == 1 && refusals[TL_CONTENTS] == 1 && refusals[TL_IDENTITY] == 1;
 
     unsigned tried = 0, went_on = 0;
     memset(refusals, 0, sizeof refusals);
@@ -191,10 +241,10 @@ int main(void)
                 went_on += (unsigned)boot(1, at, byte, (uint8_t)(1u << bit), 1);
     }
     printf("\none bit of one used byte damaged at each hand-over: %u boots, %u went on\n", tried, went_on);
-    for (uint32_t n = 1; n < 15; n++)
+    for (uint32_t n = 1; n < NUMBERS; n++)
         if (refusals[n] != 0)
-            printf("  %6u stopped with %2u %-9s %s\n", refusals[n], (unsigned)n, refusal_name(n), refusal_cause(n));
+            printf("  %6u stopped with %2u %-11s %s\n", refusals[n], (unsigned)n, refusal_name(n), refusal_cause(n));
     printf("one of them, in full: byte 8 of the list that the bench is handed\n");
     boot(1, 2, 8, 0x10, 0);
-    return went_on == 0 ? 0 : 1;
+    return right && went_on == 0 ? 0 : 1;
 }

@@ -4,8 +4,11 @@
 
 #include "transfer_list.h"
 
-static const char *const names[] = {"accepted", "AREA",     "SHORT", "SIGNATURE", "VERSION", "READONLY", "SIZES", "CHECKSUM",
-                                    "ENTRY",    "TAG",      "SHAPE", "ALIGN",     "TARGET",  "NONE",     "ROOM"};
+/* There is no 15, 16 or 17. */
+static const char *const names[] = {
+    "accepted", "AREA",     "SHORT", "SIGNATURE", "VERSION", "READONLY", "SIZES", "CHECKSUM",
+    "ENTRY",    "TAG",      "SHAPE", "ALIGN",     "TARGET",  "NONE",     "ROOM",
+    [TL_CERTIFICATE] = "CERTIFICATE", [TL_IDENTITY] = "IDENTITY", [TL_CONTENTS] = "CONTENTS"};
 
 static const char *const causes[] = {
     "",
@@ -23,16 +26,19 @@ static const char *const causes[] = {
     "the target is too long or above 2^48",
     "no such occurrence of the tag",
     "there is no room for it",
+    [TL_CERTIFICATE] = "the list has not exactly one test certificate of 56 bytes",
+    [TL_IDENTITY] = "the certificate is that of another valve or another test",
+    [TL_CONTENTS] = "the certificate's kind, counts, calibration, limits or reading is not allowed",
 };
 
 const char *refusal_name(uint32_t number)
 {
-    return number < sizeof names / sizeof *names ? names[number] : "unknown";
+    return number < sizeof names / sizeof *names && names[number] != NULL ? names[number] : "unknown";
 }
 
 const char *refusal_cause(uint32_t number)
 {
-    return number < sizeof causes / sizeof *causes ? causes[number] : "";
+    return number < sizeof causes / sizeof *causes && causes[number] != NULL ? causes[number] : "";
 }
 
 void print_refusal(uint32_t number)
@@ -62,6 +68,7 @@ static const char *tag_name(uint32_t tag)
     case 0x101: return "SPMC manifest";
     case 0x102: return "entry point";
     case 0x104: return "memory layout";
+    case TL_TAG_CERTIFICATE: return "test certificate";
     default: return tag >= 0xfff000 ? "own use" : "other";
     }
 }

@@ -1,5 +1,6 @@
 /*
  * transfer_list.h: transfer lists of the Firmware Handoff specification: check, find, create, add, void, tidy, relocate.
+ * Of the test certificate that a list carries: the reading, and pass or fail.
  * Of lists still in its edition 0.9: check, find, convert into a current list.
  *
  * Every function takes any bytes at any stated address, of any size. It ends, reads and writes only the memory that it is lent, and
@@ -35,11 +36,21 @@ extern "C" {
                          /* in edition 0.9, the checksum byte is not the sum modulo 256 of the other used bytes */
 #define TL_ENTRY 8u      /* an entry's hdr_size is wrong, it exceeds used_size, or a void's data_size is no multiple of 8 */
 #define TL_TAG 9u        /* the tag is 0 or over 0xffffff; for the adds also 0x800000 to 0xffefff */
-#define TL_SHAPE 10u     /* the tag may not carry data of this length: tag 5 under 4 bytes, 6 not 12, 0x100 not 8, 0x104 not 16 */
+#define TL_SHAPE 10u     /* the tag may not carry data of this length: tag 5 under 4 bytes, 6 not 12, 0x100 not 8, 0x104 not 16, */
+                         /* 0xfff010 not 56 */
 #define TL_ALIGN 11u     /* the exponent is outside 3 to 12 */
 #define TL_TARGET 12u    /* target base + target length exceeds 2^48, or the target length exceeds 65,536 */
 #define TL_NONE 13u      /* no such occurrence of the tag */
 #define TL_ROOM 14u      /* there is no room for it */
+
+/* Those of tl_certificate() alone. There is no 15, 16 or 17. */
+#define TL_CERTIFICATE 18u /* no entry or more than one has tag 0xfff010, or the one that has it is not 56 bytes long */
+#define TL_IDENTITY 19u    /* the certificate's serial or test is not the one asked for */
+#define TL_CONTENTS 20u    /* the kind is not 1, 2 or 3, counts exceed 2^24, a float or the reading is infinite or no number, gain is not */
+                           /* above zero, an unused limit is not eight zero bytes, or a band's low exceeds its high */
+
+/* The tag of a test certificate. */
+#define TL_TAG_CERTIFICATE 0xfff010u
 
 /* What a check answers. */
 typedef struct {
@@ -64,6 +75,13 @@ typedef struct {
     uint32_t number; /* 0, or the number of the refusal */
     uint32_t value;  /* what the function says */
 } tl_done;
+
+/* What tl_certificate() answers. */
+typedef struct {
+    uint32_t number; /* 0, or the number of the refusal */
+    uint32_t pass;   /* 1 for a pass, 0 for a fail; 0 for a refusal too */
+    double reading;  /* the reading, of a pass and of a fail; +0.0 for a refusal */
+} tl_certified;
 
 /**
  * tl_check - check a transfer list
@@ -152,7 +170,7 @@ tl_done tl_create(uint8_t *area, size_t len, uint64_t base, bool has_checksum);
  *	TL_READONLY, the list's version is over 1; it comes after TL_VERSION and before TL_SIZES
  *	TL_TAG, the tag is 0, over 0xffffff, or 0x800000 to 0xffefff
  *	TL_SHAPE, the tag is 5 and data_len is under 4 (a TPM event log's data begins with a flags word of 4 bytes), or the tag is 6,
- *	0x100 or 0x104 and data_len is not 12, 8 or 16, respectively
+ *	0x100, 0x104 or 0xfff010 and data_len is not 12, 8, 16 or 56, respectively
  *	TL_ROOM, no allowed void serves and the entry does not fit behind used_size
  */
 tl_done tl_add(uint8_t *area, size_t len, uint64_t base, uint32_t tag, const uint8_t *data, size_t data_len, bool use_voids);
@@ -238,6 +256,50 @@ tl_done tl_tidy(uint8_t *area, size_t len, uint64_t base);
  *	TL_ROOM, shift + used_size exceeds target_len
  */
 tl_done tl_relocate(const uint8_t *area, size_t len, uint64_t base, uint8_t *target, size_t target_len, uint64_t target_base);
+
+/**
+ * tl_certificate - read the test certificate of a valve, and say whether it passes
+ * @area: the bytes of the area that holds the list
+ * @len: the number of bytes of the area
+ * @base: the address at which the area stands
+ * @serial: the serial of the valve asked for
+ * @test: the number of the test asked for
+ *
+ * tl_certificate() checks the list as tl_check() does, and then looks for the one entry with tag TL_TAG_CERTIFICATE; voids do not count.
+ * If it is that of this serial and test and its contents are sound, the reading is gain times counts, then plus offset, each rounded
+ * once, to the nearest float, ties to even; and it is a pass if it is inside the gate, limits included. Lists of version 1 and above are
+ * read. The area is only read.
+ *
+ * The 56 bytes of a certificate, each number's lowest byte first; a float is an IEEE 754 number of 64 bits:
+ *	 0  serial  8 bytes
+ *	 8  test    8 bytes
+ *	16  kind    4 bytes  the gate: 1 a band from low to high, 2 a ceiling with high, 3 a floor with low
+ *	20  counts  4 bytes  at most 2^24
+ *	24  gain    a float  above zero; with offset, the gauge's calibration
+ *	32  offset  a float
+ *	40  low     a float  eight zero bytes (so not -0.0) for a ceiling; for a band, at most high
+ *	48  high    a float  eight zero bytes (so not -0.0) for a floor
+ * Gain 0.25, offset -100 and counts 4000 read exactly 900. The reading is never -0.0.
+ * The adds see to the length alone: they do not judge the 56 bytes, nor whether the list has a certificate already.
+ *
+ * Tell a refusal and a fail apart by the number alone. A fail has number 0, pass 0 and its reading; a refusal has pass 0 too, and the
+ * reading +0.0, which a certificate can also read.
+ *
+ * The floating-point environment is taken to be the default one: rounding to nearest, small numbers neither taken for zero nor flushed
+ * to it, no traps. Its exception flags, such as "inexact", may be set afterwards. The call uses floating-point registers, on x86-64 xmm
+ * registers, as the code of other calls here does too: an interrupt handler or kernel code must save them.
+ *
+ * returns:
+ *	number 0, pass 1 or 0, and the reading
+ *	each refusal of tl_check()
+ *	TL_CERTIFICATE, no entry of the list has the tag, more than one has it, or the one that has it is not 56 bytes long
+ *	TL_IDENTITY, the certificate's serial is not serial, or its test is not test
+ *	TL_CONTENTS, the kind is not 1, 2 or 3; counts exceed 2^24; gain, offset, low, high or the reading is infinite or no number, the
+ *	reading also where only the product is infinite; gain is 0 or below; an unused limit is not eight zero bytes; or a band's low
+ *	exceeds its high
+ *	of these, the least number whose cause is there
+ */
+tl_certified tl_certificate(const uint8_t *area, size_t len, uint64_t base, uint64_t serial, uint64_t test);
 
 /*
  * Edition 0.9 of the specification, which some stages still hand their lists over in. Its header has 16 bytes: the signature 0x006ed0ff,

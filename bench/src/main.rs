@@ -2,7 +2,7 @@
 mod plain;
 mod xor;
 
-use plain::{Checked, Done, Found};
+use plain::{Certified, Checked, Done, Found};
 use std::hint::black_box;
 use std::ops::Range;
 use std::time::Instant;
@@ -13,6 +13,7 @@ extern "C" {
     fn tl_add(area: *mut u8, len: usize, base: u64, tag: u32, data: *const u8, n: usize, voids: bool) -> Done;
     fn tl_void(area: *mut u8, len: usize, base: u64, tag: u32, n: u64) -> Done;
     fn tl_tidy(area: *mut u8, len: usize, base: u64) -> Done;
+    fn tl_certificate(area: *const u8, len: usize, base: u64, serial: u64, test: u64) -> Certified;
     fn tl09_check(area: *const u8, len: usize, base: u64) -> Checked;
     fn tl09_convert(area: *const u8, len: usize, base: u64, target: *mut u8, target_len: usize, target_base: u64) -> Done;
 }
@@ -22,6 +23,8 @@ const BASE: u64 = 0x1000;
 const TARGET_BASE: u64 = 0x20000;
 const LAST: u32 = 0xff_f001;
 const DATA: [u8; 64] = [0x5a; 64];
+const SERIAL: u64 = 5501;
+const TEST: u64 = 71;
 
 fn library_check(area: &[u8]) -> Checked {
     unsafe { tl_check(area.as_ptr(), area.len(), BASE) }
@@ -41,6 +44,10 @@ fn library_void(area: &mut [u8]) -> Done {
 
 fn library_tidy(area: &mut [u8]) -> Done {
     unsafe { tl_tidy(area.as_mut_ptr(), area.len(), BASE) }
+}
+
+fn library_certificate(area: &[u8]) -> Certified {
+    unsafe { tl_certificate(area.as_ptr(), area.len(), BASE, SERIAL, TEST) }
 }
 
 fn library_check09(area: &[u8]) -> Checked {
@@ -63,7 +70,20 @@ fn list(entries: impl IntoIterator<Item = (u32, usize)>) -> Vec<u8> {
     a
 }
 
-/// The same in edition 0.9: entries from 16 on, and the sum.
+/// The same with one entry more, a certificate that passes a band.
+fn certified(entries: impl IntoIterator<Item = (u32, usize)>) -> Vec<u8> {
+    let mut a = list(entries.into_iter().chain([(plain::CERTIFICATE, 56)]));
+    let used = u32::from_le_bytes(a[8..12].try_into().unwrap()) as usize;
+    let numbers = [SERIAL, TEST, 4000 << 32 | 1].into_iter().chain([0.25f64, -100.0, 880.0, 920.0].map(f64::to_bits));
+    for (to, number) in a[used - 56..used].chunks_exact_mut(8).zip(numbers) {
+        to.copy_from_slice(&number.to_le_bytes());
+    }
+    a[4] = 0;
+    a[4] = a[..used].iter().fold(0, |x, b| x ^ b);
+    a
+}
+
+/// A list likewise in edition 0.9: entries from 16 on, and the sum.
 fn list09(entries: impl IntoIterator<Item = (u32, usize)>) -> Vec<u8> {
     let mut a = vec![0u8; LENGTH];
     a[..4].copy_from_slice(&0x006e_d0ffu32.to_le_bytes());
@@ -152,6 +172,11 @@ fn time_reading<T: PartialEq + std::fmt::Debug>(what: &str, area: &[u8], library
 fn time_check(what: &str, area: &[u8]) {
     assert_eq!(library_check(area).number, 0, "{what}");
     time_reading(what, area, library_check, |a| plain::check(a, BASE, false));
+}
+
+fn time_certificate(what: &str, area: &[u8]) {
+    assert_eq!(library_certificate(area), Certified { number: 0, pass: 1, reading: 900.0 }, "{what}");
+    time_reading(what, area, library_certificate, |a| plain::certificate(a, BASE, SERIAL, TEST));
 }
 
 /// Times an edit. Each call is followed by putting back the header and these bytes, which are all that the edit changes. The time for that
@@ -259,6 +284,8 @@ fn main() {
     );
     time_tidy("tidy, 65,536 bytes, voids of 8 bytes", &list((0..(LENGTH - 24) / 8).map(|_| (0, 0))));
     time_tidy("tidy, 65,536 bytes, every second entry a void", &every_second_void());
+    time_certificate("certificate, the last of four entries", &certified([(1, 40), (LAST, 16), (1, 7)]));
+    time_certificate("certificate, 65,536 bytes, behind entries of 8 bytes", &certified((0..(LENGTH - 24 - 64) / 8).map(|_| (1, 0))));
     let old = list09([(1, LENGTH - 24)]);
     assert_eq!(library_check09(&old).number, 0);
     time_reading("edition 0.9: check, 65,536 bytes, one entry", &old, library_check09, |a| plain::check09(a, BASE, false));

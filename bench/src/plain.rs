@@ -144,6 +144,7 @@ fn length_allowed(tag: u32, n: usize) -> bool {
         6 => n == 12,
         0x100 => n == 8,
         0x104 => n == 16,
+        CERTIFICATE => n == 56,
         _ => true,
     }
 }
@@ -274,6 +275,60 @@ pub fn tidy(area: &mut [u8], base: u64) -> Done {
         list[4] = xor(&list[..end]);
     }
     Done { number: 0, value: end as u32 }
+}
+
+pub const CERTIFICATE: u32 = 0xff_f010;
+
+#[repr(C)]
+#[derive(Clone, Copy, Debug, Default, PartialEq)]
+pub struct Certified {
+    pub number: u32,
+    pub pass: u32,
+    pub reading: f64,
+}
+
+fn long(bytes: &[u8], at: usize) -> u64 {
+    u64::from_le_bytes(bytes[at..at + 8].try_into().unwrap())
+}
+
+/// The certificate of a version 1 list, with the same answers as the library's.
+#[inline(never)]
+pub fn certificate(area: &[u8], base: u64, serial: u64, test: u64) -> Certified {
+    let refused = |number| Certified { number, ..Certified::default() };
+    let c = check(area, base, false);
+    if c.number != 0 {
+        return refused(c.number);
+    }
+    let mut found = entries(&area[..c.used as usize]).filter(|e| e.1 == CERTIFICATE);
+    let (Some((at, _, 56)), None) = (found.next(), found.next()) else {
+        return refused(18);
+    };
+    let data = &area[at + 8..at + 64];
+    if long(data, 0) != serial || long(data, 8) != test {
+        return refused(19);
+    }
+    match judge(data) {
+        Some((reading, pass)) => Certified { number: 0, pass: pass as u32, reading },
+        None => refused(20),
+    }
+}
+
+/// The reading of a certificate with sound contents, and whether it passes.
+fn judge(data: &[u8]) -> Option<(f64, bool)> {
+    let (kind, counts) = (word(data, 16), word(data, 20));
+    let [gain, offset, low, high] = [24, 32, 40, 48].map(|at| f64::from_bits(long(data, at)));
+    let gate = match kind {
+        1 => low <= high,
+        2 => low.to_bits() == 0,
+        3 => high.to_bits() == 0,
+        _ => false,
+    };
+    let reading = gain * counts as f64 + offset;
+    let finite = [gain, offset, low, high, reading].iter().all(|x| x.is_finite());
+    if !gate || counts > 1 << 24 || !finite || gain <= 0.0 {
+        return None;
+    }
+    Some((reading, (kind == 2 || low <= reading) && (kind == 3 || reading <= high)))
 }
 
 /// Conversion from edition 0.9, with the same answers and bytes as the library's.

@@ -3,12 +3,14 @@
 
 use crate::lent::{Guards, Lent};
 use crate::library;
-use oracle::event_logs::EventLogs;
+use oracle::add_lengths::AddLengths;
 use oracle::lists::List;
+use oracle::lists_certificate;
 use oracle::model::{self, Answer, Edition};
 use oracle::params::{self, Facts};
 use oracle::rng::Rng;
 use oracle::runs::Runs;
+use oracle::sights::Sights;
 use oracle::tally::{Call, Tally};
 use std::fmt::Write;
 
@@ -20,18 +22,23 @@ pub struct Times {
     pub aligned_adds: usize,
     pub voids: usize,
     pub relocations: usize,
+    pub certificates: usize,
     pub conversions: usize,
 }
 
 /// Calls of the list's own edition.
-const OWN: Times = Times { finds: 5, adds: 6, aligned_adds: 4, voids: 4, relocations: 4, conversions: 8 };
+const OWN: Times =
+    Times { finds: 5, adds: 6, aligned_adds: 4, voids: 4, relocations: 4, certificates: 2, conversions: 8 };
 /// Calls of the other edition, which mostly look no further than the signature.
-const OTHER: Times = Times { finds: 1, adds: 1, aligned_adds: 1, voids: 1, relocations: 1, conversions: 1 };
+const OTHER: Times =
+    Times { finds: 1, adds: 1, aligned_adds: 1, voids: 1, relocations: 1, certificates: 1, conversions: 1 };
 
 pub struct Bench {
     pub tally: Tally,
-    pub event_logs: EventLogs,
+    pub event_logs: AddLengths,
+    pub added_certificates: AddLengths,
     pub runs: Runs,
+    pub sights: Sights,
     pub guards: Guards,
 }
 
@@ -53,8 +60,10 @@ impl Bench {
     pub fn new(seed: u64) -> Bench {
         Bench {
             tally: Tally::default(),
-            event_logs: EventLogs::default(),
+            event_logs: AddLengths::of_event_logs(),
+            added_certificates: AddLengths::of_certificates(),
             runs: Runs::default(),
+            sights: Sights::default(),
             guards: Guards::new(seed),
         }
     }
@@ -79,6 +88,10 @@ impl Bench {
         self.edits(rng, list, &facts, times)?;
         self.relocations(rng, list, &facts, times)?;
         self.tidy(list)?;
+        for _ in 0..times.certificates {
+            let (serial, test) = lists_certificate::asked(rng, &list.area);
+            self.certificate(list, serial, test)?;
+        }
         Ok(())
     }
 

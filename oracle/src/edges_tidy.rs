@@ -30,12 +30,12 @@ fn entry(tag: u8, data_size: usize, byte: u8) -> Vec<u8> {
 
 /// What a row is made of: a live entry with padding that is not 0 and one without data; a void without
 /// data, one whose data is 0, and one whose data is not.
-fn pieces() -> [Vec<u8>; 5] {
+pub fn pieces() -> [Vec<u8>; 5] {
     [entry(1, 3, 0x5a), entry(2, 0, 0), entry(0, 0, 0), entry(0, 8, 0), entry(0, 16, 0xd7)]
 }
 
 /// A list of version 1 with these entries, `spare` bytes to grow into and `rest` behind its total.
-fn by_hand(alignment: u8, flags: u32, entries: &[u8], spare: usize, rest: usize) -> List {
+pub fn by_hand(alignment: u8, flags: u32, entries: &[u8], spare: usize, rest: usize) -> List {
     let used = 24 + entries.len();
     let mut area = vec![BEHIND; used + spare + rest];
     put_u32(&mut area, 0, Edition::Current.signature());
@@ -60,7 +60,7 @@ fn with_runs() -> List {
     by_hand(6, HAS_CHECKSUM, &entries, 16, 8)
 }
 
-type Change = fn(&mut List);
+pub type Change = fn(&mut List);
 
 fn put_byte(list: &mut List, offset: usize, byte: u8) {
     list.area[offset] = byte;
@@ -72,7 +72,7 @@ fn grow(list: &mut List, offset: usize, by: u8) {
 }
 
 /// What gives each refusal; the checksum is put right afterwards where that is not the matter.
-const REFUSALS: [(u32, Change); 42] = [
+pub const REFUSALS: [(u32, Change); 42] = [
     (model::AREA, |list| list.base += 4),
     (model::AREA, |list| list.base += 1),
     (model::AREA, |list| list.base = END - list.area.len() as u64 / 8 * 8 + 8),
@@ -118,7 +118,7 @@ const REFUSALS: [(u32, Change); 42] = [
 ];
 
 /// Makes the change, and puts the checksum right where it is not the refusal and there is a header.
-fn change_by(list: &mut List, (number, change): (u32, Change)) {
+pub fn change_by(list: &mut List, (number, change): (u32, Change)) {
     change(list);
     if number != model::CHECKSUM && list.area.len() >= 24 {
         restore_checksum(Edition::Current, &mut list.area);
@@ -130,11 +130,11 @@ fn full(entries: &[&[u8]]) -> Vec<u8> {
     entries.concat().into_iter().cycle().take(LONGEST_AREA - 24).collect()
 }
 
-fn expect(given: u32, wanted: u32) -> Result<(), String> {
+pub fn expect(given: u32, wanted: u32) -> Result<(), String> {
     if given == wanted {
         Ok(())
     } else {
-        Err(format!("an edge of tidy was to answer {wanted} and answered {given}"))
+        Err(format!("an edge was to answer {wanted} and answered {given}"))
     }
 }
 

@@ -64,6 +64,7 @@ impl Bench {
         ];
         self.judge(&asked, wanted, given, &buffers)?;
         self.event_logs.count(edit, wanted.number);
+        self.added_certificates.count(edit, wanted.number);
         if wanted.number == 0 {
             let held = demand::after_edit(&list.area, &after, list.base, edit, wanted.value);
             asked.demand(held, &buffers)?;

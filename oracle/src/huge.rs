@@ -6,6 +6,7 @@ use crate::compare::{Asked, Bench};
 use crate::lent::Lent;
 use crate::library;
 use oracle::model;
+use oracle::model_certificate;
 use oracle::model_tidy;
 use oracle::tally::Call;
 
@@ -59,7 +60,10 @@ impl Bench {
         self.judge(&asked(Call::Check), wanted, given, &[])?;
         let wanted = model::find(huge.bytes(), BASE, TAG, 0);
         let given = library::find(huge, BASE, TAG, 0);
-        self.judge(&asked(Call::Find), wanted, given, &[])
+        self.judge(&asked(Call::Find), wanted, given, &[])?;
+        let wanted = model_certificate::certificate(huge.bytes(), BASE, 0, 0);
+        let given = library::certificate(huge, BASE, 0, 0);
+        self.judge(&asked(Call::Certificate), wanted, given, &[])
     }
 }
 
@@ -85,9 +89,10 @@ impl Bench {
     }
 
     /// Data whose length, cut to 32 bits, would fit the list and the tag table, or that only then
-    /// would be too short for an event log.
+    /// would be too short for an event log. The longest comes first, since the buffer is cut.
     fn add_huge_data(&mut self, list: &[u8], huge: &mut Lent) -> Result<(), String> {
-        for (tag, length) in [(0x104, 16), (6, 12), (0x100, 8), (TAG, 4), (5, 4), (5, 3)] {
+        let certificate = (model::CERTIFICATE_TAG, 56);
+        for (tag, length) in [certificate, (0x104, 16), (6, 12), (0x100, 8), (TAG, 4), (5, 4), (5, 3)] {
             huge.cut((1 << 32) + length);
             let mut area = self.guards.lend(list);
             let wanted = model::add(&mut list.to_vec(), BASE, tag, huge.bytes(), true);

@@ -3,6 +3,7 @@
 use crate::lent::Lent;
 use crate::watch;
 use oracle::model::{Checked, Done, Found};
+use oracle::model_certificate::Certified;
 use oracle::tally::Call;
 
 #[rustfmt::skip]
@@ -19,6 +20,7 @@ extern "C" {
     fn tl_relocate(area: *const u8, len: usize, base: u64,
                    target: *mut u8, target_len: usize, target_base: u64) -> Done;
     fn tl_tidy(area: *mut u8, len: usize, base: u64) -> Done;
+    fn tl_certificate(area: *const u8, len: usize, base: u64, serial: u64, test: u64) -> Certified;
     fn tl09_check(area: *const u8, len: usize, base: u64) -> Checked;
     fn tl09_find(area: *const u8, len: usize, base: u64, tag: u32, n: u64) -> Found;
     fn tl09_convert(area: *const u8, len: usize, base: u64,
@@ -66,6 +68,11 @@ pub fn relocate(area: &mut Lent, base: u64, target: &mut Lent, target_base: u64)
 pub fn tidy(area: &mut Lent, base: u64) -> Done {
     watch::call(Call::Tidy);
     unsafe { tl_tidy(area.pointer(), area.len(), base) }
+}
+
+pub fn certificate(area: &mut Lent, base: u64, serial: u64, test: u64) -> Certified {
+    watch::call(Call::Certificate);
+    unsafe { tl_certificate(area.pointer(), area.len(), base, serial, test) }
 }
 
 pub fn check09(area: &mut Lent, base: u64) -> Checked {

@@ -2,9 +2,11 @@
 //! hand (later versions, longer headers, odd flags, padding that is not 0), and noise; then damaged
 //! ones, cut ones and ones at bad addresses.
 
+use crate::certificate_values;
 use crate::damage::spoil;
 use crate::lists09;
-use crate::model::{self, align8, field, put_u32, Edition, ADDRESS_END, LONGEST_AREA};
+use crate::lists_certificate;
+use crate::model::{self, align8, field, put_u32, Edition, ADDRESS_END, CERTIFICATE_TAG, LONGEST_AREA};
 use crate::model_tidy;
 use crate::rng::Rng;
 
@@ -157,9 +159,7 @@ fn edit(rng: &mut Rng, list: &mut List) {
         move_away(rng, list);
         return;
     }
-    let tag = rng.range(1, 4) as u32;
-    let length = rng.small(if list.area.len() > 4096 { 15 } else { 7 });
-    let data = rng.bytes(length as usize);
+    let (tag, data) = some_data(rng, list.area.len());
     match rng.below(23) {
         0..=5 => model::add(&mut list.area, list.base, tag, &data, false),
         6..=11 => model::add(&mut list.area, list.base, tag, &data, true),
@@ -167,6 +167,16 @@ fn edit(rng: &mut Rng, list: &mut List) {
         16 => model_tidy::tidy(&mut list.area, list.base),
         _ => model::void(&mut list.area, list.base, tag, rng.below(3)),
     };
+}
+
+/// What an edit adds, and the tag: a certificate now and then.
+fn some_data(rng: &mut Rng, area_len: usize) -> (u32, Vec<u8>) {
+    if rng.once_in(8) {
+        return (CERTIFICATE_TAG, certificate_values::any(rng).bytes());
+    }
+    let tag = rng.range(1, 4) as u32;
+    let length = rng.small(if area_len > 4096 { 15 } else { 7 });
+    (tag, rng.bytes(length as usize))
 }
 
 /// An exponent from 3 to 12, the small ones more often.
@@ -192,6 +202,10 @@ pub fn laid_out(rng: &mut Rng, edition: Edition, version: u8) -> List {
     let mut area = laid_out_header(rng, edition, version);
     let limit = area_len(rng) / 8 * 8;
     lay_out_entries(rng, version, &mut area, limit);
+    if area.len() < 4096 && rng.once_in(3) {
+        lists_certificate::lay_out(rng, version, &mut area);
+        lay_out_entries(rng, version, &mut area, limit);
+    }
     if limit > 4096 || rng.once_in(4) {
         fill_up(rng, &mut area, limit);
     }
@@ -263,7 +277,7 @@ fn flags(rng: &mut Rng) -> u32 {
 }
 
 /// A header size from `least` to 255.
-fn longer_header(rng: &mut Rng, least: u8) -> u8 {
+pub(crate) fn longer_header(rng: &mut Rng, least: u8) -> u8 {
     match rng.below(6) {
         0 | 1 => least,
         2 => least + 8,
@@ -302,7 +316,7 @@ fn fill_up(rng: &mut Rng, area: &mut Vec<u8>, limit: usize) {
 }
 
 /// An entry with its data and its padding, which is mostly not 0.
-fn laid_out_entry(rng: &mut Rng, tag_id: u32, hdr_size: u8, data_size: u32) -> Vec<u8> {
+pub(crate) fn laid_out_entry(rng: &mut Rng, tag_id: u32, hdr_size: u8, data_size: u32) -> Vec<u8> {
     let data_size = if tag_id == 0 { data_size / 8 * 8 } else { data_size };
     let mut entry = rng.bytes(align8(hdr_size as u128 + data_size as u128) as usize);
     put_u32(&mut entry, 0, tag_id);
@@ -316,7 +330,7 @@ fn live_tag(rng: &mut Rng) -> u32 {
     match rng.below(6) {
         0..=2 => rng.range(1, 4) as u32,
         3 => rng.pick(&[5, 6, 0x100, 0x101, 0x102, 0x103, 0x104]),
-        4 => rng.pick(&[0x7f_ffff, 0x80_0000, 0xff_efff, 0xff_f000, 0xff_ffff]),
+        4 => rng.pick(&[0x7f_ffff, 0x80_0000, 0xff_efff, 0xff_f000, 0xff_f00f, 0xff_f011, 0xff_ffff]),
         _ => rng.range(1, 0xff_ffff) as u32,
     }
 }

@@ -1,12 +1,16 @@
-//! Compares libtransfer_list.a with the model of document 01 and of document 02, requests 1 to 3, on
-//! many lists.
+//! Compares libtransfer_list.a with the model of document 01 and of document 02, requests 1 to 3 and 5,
+//! on many lists.
 //!
 //! `oracle [LISTS [SEED]]`; the list after that of seed S is the one of seed S + 1.
 
 mod calls09;
+mod certificates;
 mod compare;
 mod edges09;
+mod edges_added_certificate;
+mod edges_certificate;
 mod edges_event_log;
+mod edges_reading;
 mod edges_tidy;
 mod edges_words;
 mod edits;
@@ -66,13 +70,19 @@ fn run(lists: u64, seed: u64) -> Result<(), String> {
     bench.edges_event_log()?;
     bench.edges_tidy()?;
     bench.edges_words()?;
+    bench.edges_certificate()?;
+    bench.edges_added_certificate()?;
+    bench.edges_reading(seed)?;
     bench.huge_lengths()?;
     bench.huge_lengths09()?;
-    println!("{}\n{}\n{}", bench.tally.table(), bench.event_logs.table(), runs.table());
-    let unseen = [bench.tally.unseen(), bench.event_logs.unseen(), runs.unseen()].concat();
+    println!("{}\n{}", bench.tally.table(), bench.event_logs.table());
+    println!("{}\n{}\n{}", bench.added_certificates.table(), runs.table(), bench.sights.table());
+    let adds = [bench.event_logs.unseen(), bench.added_certificates.unseen()].concat();
+    let unseen = [bench.tally.unseen(), adds, runs.unseen(), bench.sights.unseen()].concat();
     if !unseen.is_empty() {
         return Err(unseen.join("\n"));
     }
+    println!("{} certificates judged", bench.sights.judged());
     println!("{lists} lists, {} calls, no difference", bench.tally.calls());
     Ok(())
 }

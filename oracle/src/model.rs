@@ -1,6 +1,7 @@
 //! The seven jobs of document 01, each sentence written down plainly; the tag table as document 02,
-//! request 2, amends it. The checks 1 to 8, check and find serve lists of edition 0.9 too (document 02,
-//! request 1); `model09` has what is theirs alone, and `model_tidy` the job of request 3.
+//! requests 2 and 5, amends it. The checks 1 to 8, check and find serve lists of edition 0.9 too (document
+//! 02, request 1); `model09` has what is theirs alone, `model_tidy` the job of request 3, and
+//! `model_certificate` that of request 5.
 //!
 //! "All sums here are whole-number sums; none wraps": every sum is made in u128, where the largest
 //! address and the largest length together stay far below the limit.
@@ -125,6 +126,7 @@ const TE_HDR_SIZE: u8 = 8;
 
 const VOID_TAG: u32 = 0;
 pub const EVENT_LOG_TAG: u32 = 5;
+pub const CERTIFICATE_TAG: u32 = 0xff_f010;
 const HAS_CHECKSUM: u32 = 1;
 
 pub fn align8(x: u128) -> u128 {
@@ -137,7 +139,7 @@ fn round_down8(x: u128) -> u128 {
 
 // "Numbers are little-endian."
 
-fn read_u32(area: &[u8], offset: usize) -> u32 {
+pub(crate) fn read_u32(area: &[u8], offset: usize) -> u32 {
     u32::from_le_bytes(area[offset..offset + 4].try_into().unwrap())
 }
 
@@ -267,9 +269,9 @@ impl Header {
 /// "An entry is tag (3 bytes), hdr_size (1), data_size (4), then data."
 pub(crate) struct Entry {
     pub(crate) place: u128,
-    tag_id: u32,
+    pub(crate) tag_id: u32,
     hdr_size: u128,
-    data_size: u128,
+    pub(crate) data_size: u128,
 }
 
 impl Entry {
@@ -293,7 +295,7 @@ impl Entry {
         self.tag_id != VOID_TAG
     }
 
-    fn data_offset(&self) -> u128 {
+    pub(crate) fn data_offset(&self) -> u128 {
         self.place + self.hdr_size
     }
 }
@@ -319,7 +321,7 @@ impl List {
         Ok(List { header, entries })
     }
 
-    fn open_to_read(edition: Edition, area: &[u8], base: u64) -> Result<List, u32> {
+    pub(crate) fn open_to_read(edition: Edition, area: &[u8], base: u64) -> Result<List, u32> {
         List::open(edition, area, base, false)
     }
 
@@ -357,13 +359,15 @@ fn check_new_tag(tag: u32) -> Result<(), u32> {
 }
 
 /// "What a known tag may carry"; "a tag not listed may carry any length". Document 02, request 2, for
-/// tag 5: "a length under 4 is SHAPE from now on; 4 is accepted".
+/// tag 5: "a length under 4 is SHAPE from now on; 4 is accepted"; request 5: "tag 0xfff010 carries exactly
+/// 56 bytes", and "adds of this tag with another length are SHAPE".
 pub fn lengths(tag: u32) -> RangeInclusive<usize> {
     match tag {
         EVENT_LOG_TAG => 4..=usize::MAX,
         6 => 12..=12,
         0x100 => 8..=8,
         0x104 => 16..=16,
+        CERTIFICATE_TAG => 56..=56,
         _ => 0..=usize::MAX,
     }
 }

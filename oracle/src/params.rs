@@ -3,7 +3,7 @@
 //! address space.
 
 use crate::lists::{self, good_exponent, List};
-use crate::model::{self, field, ADDRESS_END, EVENT_LOG_TAG};
+use crate::model::{self, field, ADDRESS_END, CERTIFICATE_TAG, EVENT_LOG_TAG};
 use crate::rng::Rng;
 
 /// No data longer than this is lent; it is more than any area holds.
@@ -72,7 +72,7 @@ fn absent_tag(rng: &mut Rng) -> u32 {
     match rng.below(4) {
         0 => rng.range(1, 8) as u32,
         1 => rng.pick(&[0, 0x100_0000, 0x100_0001, 0x8000_0001, 0xffff_ffff]),
-        2 => rng.pick(&[0x7f_ffff, 0x80_0000, 0xff_efff, 0xff_f000, 0xff_ffff]),
+        2 => rng.pick(&[0x7f_ffff, 0x80_0000, 0xff_efff, 0xff_f000, CERTIFICATE_TAG, 0xff_ffff]),
         _ => rng.word() as u32,
     }
 }
@@ -90,21 +90,27 @@ fn occurrence(rng: &mut Rng, count: u64) -> u64 {
 
 /// A tag for either add: one of the tag table mostly, and one that TAG refuses now and then.
 pub fn new_tag(rng: &mut Rng) -> u32 {
-    match rng.below(12) {
+    match rng.below(13) {
         0..=4 => rng.range(1, 7) as u32,
         5 | 6 => rng.pick(&[0x100, 0x101, 0x102, 0x103, 0x104]),
         7 => rng.pick(&[0x7f_ffff, 0xff_f000, 0xff_ffff]),
         8 => rng.pick(&[0, 0x80_0000, 0xff_efff, 0x100_0000, 0x100_0006, 0xffff_ffff]),
         9 => rng.word() as u32,
+        10 => {
+            rng.pick(&[CERTIFICATE_TAG, CERTIFICATE_TAG, CERTIFICATE_TAG, 0xff_f00f, 0xff_f011, 0x1ff_f010])
+        }
         _ => rng.below(1 << 24) as u32,
     }
 }
 
 /// A data length for an add. `padding` is what an aligned add puts in front of the entry. Half of the
-/// event logs have a length around the least.
+/// event logs have a length around the least, and half of the certificates one around their own, or none.
 pub fn data_len(rng: &mut Rng, facts: &Facts, tag: u32, padding: i64) -> usize {
     if tag == EVENT_LOG_TAG && rng.once_in(2) {
         return rng.below(6) as usize;
+    }
+    if tag == CERTIFICATE_TAG && rng.once_in(2) {
+        return rng.pick(&[0, 55, 56, 57]);
     }
     let allowed = model::lengths(tag);
     if allowed.start() == allowed.end() && !rng.once_in(4) {

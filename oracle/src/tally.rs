@@ -2,8 +2,9 @@
 
 use std::fmt::Write;
 
-pub const NUMBERS: usize = 15;
-const CALLS: usize = 11;
+/// The numbers of refusals that some call can answer, and 0.
+const NUMBERS: [u32; 18] = [0, 1, 2, 3, 4, 5, 6, 7, 8, 9, 10, 11, 12, 13, 14, 18, 19, 20];
+const CALLS: usize = 12;
 
 #[derive(Clone, Copy, PartialEq, Eq)]
 pub enum Call {
@@ -15,6 +16,7 @@ pub enum Call {
     Void,
     Relocate,
     Tidy,
+    Certificate,
     Check09,
     Find09,
     Convert09,
@@ -30,6 +32,7 @@ impl Call {
         Call::Void,
         Call::Relocate,
         Call::Tidy,
+        Call::Certificate,
         Call::Check09,
         Call::Find09,
         Call::Convert09,
@@ -46,14 +49,16 @@ impl Call {
             Call::Void => "tl_void",
             Call::Relocate => "tl_relocate",
             Call::Tidy => "tl_tidy",
+            Call::Certificate => "tl_certificate",
             Call::Check09 => "tl09_check",
             Call::Find09 => "tl09_find",
             Call::Convert09 => "tl09_convert",
         }
     }
 
-    /// The numbers the call can answer: those of "When a call is turned away" that concern it.
-    fn possible(self) -> &'static [usize] {
+    /// The numbers the call can answer: those of "When a call is turned away" that concern it, and those of
+    /// document 02, request 5.
+    fn possible(self) -> &'static [u32] {
         match self {
             Call::Check | Call::Check09 => &[0, 1, 2, 3, 4, 6, 7, 8],
             Call::Find | Call::Find09 => &[0, 1, 2, 3, 4, 6, 7, 8, 9, 13],
@@ -62,17 +67,19 @@ impl Call {
             Call::AddAligned => &[0, 1, 2, 3, 4, 5, 6, 7, 8, 9, 10, 11, 14],
             Call::Void => &[0, 1, 2, 3, 4, 5, 6, 7, 8, 9, 13],
             Call::Tidy => &[0, 1, 2, 3, 4, 5, 6, 7, 8],
+            Call::Certificate => &[0, 1, 2, 3, 4, 6, 7, 8, 18, 19, 20],
             Call::Relocate | Call::Convert09 => &[0, 1, 2, 3, 4, 5, 6, 7, 8, 12, 14],
         }
     }
 }
 
 #[derive(Default)]
-pub struct Tally([[u64; NUMBERS]; CALLS]);
+pub struct Tally([[u64; NUMBERS.len()]; CALLS]);
 
 impl Tally {
     pub fn count(&mut self, call: Call, number: u32) {
-        self.0[call as usize][number as usize] += 1;
+        let column = NUMBERS.iter().position(|known| *known == number);
+        self.0[call as usize][column.expect("a number that some call can answer")] += 1;
     }
 
     pub fn calls(&self) -> u64 {
@@ -81,7 +88,7 @@ impl Tally {
 
     pub fn table(&self) -> String {
         let mut table = format!("{:<15}", "call");
-        for number in 0..NUMBERS {
+        for number in NUMBERS {
             write!(table, "{number:>9}").unwrap();
         }
         for call in Call::ALL {
@@ -93,13 +100,15 @@ impl Tally {
         table
     }
 
-    /// The calls with the numbers they can answer and never did.
+    /// The calls with the numbers they can answer and never did, or cannot and did.
     pub fn unseen(&self) -> Vec<String> {
         let mut unseen = Vec::new();
         for call in Call::ALL {
-            for &number in call.possible() {
-                if self.0[call as usize][number] == 0 {
-                    unseen.push(format!("{} never answered {number}", call.name()));
+            for (seen, number) in self.0[call as usize].iter().zip(NUMBERS) {
+                match (call.possible().contains(&number), *seen) {
+                    (true, 0) => unseen.push(format!("{} never answered {number}", call.name())),
+                    (false, 1..) => unseen.push(format!("{} answered {number}", call.name())),
+                    _ => {}
                 }
             }
         }

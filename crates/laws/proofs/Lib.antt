@@ -22,3 +22,5 @@ pub mod Moved
 pub mod Tidy
 pub mod Tiles
 pub mod Cleared
+pub mod OneCertificate
+pub mod Certificate

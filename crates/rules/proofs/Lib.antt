@@ -1,2 +1,4 @@
+pub mod Bools
 pub mod Examples
 pub mod TidyExamples
+pub mod CertificateExamples

@@ -21,4 +21,5 @@ pub mod Tidy
 pub mod Edit
 pub mod Demand3
 pub mod Edition09
+pub mod Certificate
 pub mod TidyTwice

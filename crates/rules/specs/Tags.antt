@@ -1,4 +1,4 @@
--- Document 01, "What a known tag may carry", as amended by request 2: the tag table, which only the two adds use (refusal 10).
+-- Document 01, "What a known tag may carry", as amended by requests 2 and 5: the tag table, which only the two adds use (refusal 10).
 use Prim.Native.Nat.{ℕ}
 use mathlib.Core.Bool.{Bool, false, _||_, cond}
 use mathlib.Core.List.{List, [], _∷_}
@@ -23,9 +23,17 @@ atLeast n tag = record { tag = tag; least = n; most = none }
 abbrev exactly : ℕ → ℕ → TagRow
 exactly n tag = record { tag = tag; least = n; most = some n }
 
+-- the test certificate (request 5): "Tag 0xfff010 carries exactly 56 bytes"
+abbrev pub certificateTag : ℕ
+certificateTag = 0xfff010
+
+abbrev pub certificateSize : ℕ
+certificateSize = 56
+
 -- FDT, HOB block, HOB list, ACPI, TPM event log, TPM CRB base; OP-TEE pageable part, SPMC manifest, entry point, memory layout
 -- TPM event log as amended by request 2: "Source document 001 puts a 4-byte flags word ahead of the log and counts it in data_size. So
 -- a length under 4 is SHAPE from now on; 4 is accepted. Both adds read the new row."
+-- Test certificate as added by request 5: "Adds of this tag with another length are SHAPE."
 unfoldable pub tagTable : List TagRow
 tagTable =
     any 1
@@ -38,6 +46,7 @@ tagTable =
     ∷ any 0x101
     ∷ any 0x102
     ∷ exactly 16 0x104
+    ∷ exactly certificateSize certificateTag
     ∷ []
 
 -- a length is over the greatest, where there is one

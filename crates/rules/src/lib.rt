@@ -1,4 +1,6 @@
 // The declared types of a transfer list and of the answers about it. The written rules are in specs/; nothing here does the work.
+pub mod certificate;
+
 ghost use mathlib.Core.Path.{_≡_};
 ghost use Rattle.rules.specs.Header.{freshHeader};
 ghost use Rattle.rules.specs.Refusals.{numberOf};

@@ -89,9 +89,13 @@ table-breaks (x ∷ xs) (y ∷ ys) tag n k h l =
 
 -- ---- the search
 
+-- the number of rows
+abbrev pub rowCount : ℕ
+rowCount = 11
+
 -- what holds when the rows before i were passed: those from there on decide as the rule's table does
 pub record Searched (rows : List TagRow) (tag n i : ℕ) : Type 0 where
-  pub within : i ≤ 10
+  pub within : i ≤ rowCount
   pub alike : Alike rows tagTable
   pub rest : someBreak (drop i rows) tag n ≡ refusesShape tag n
 
@@ -109,25 +113,25 @@ begun rows tag n k l = record { within = omega arith; alike = k; rest = table-br
 
 module _ {rows : List TagRow} {tag n i : ℕ} (d : TagRow) (s : Searched rows tag n i) where
   -- the row at i, and then those behind it
-  next : (b : Bool) → i < 10 → rowBreaks (getD rows i d) tag n ≡ b → (b || someBreak (drop (i + 1) rows) tag n) ≡ refusesShape tag n
+  next : (b : Bool) → i < rowCount → rowBreaks (getD rows i d) tag n ≡ b → (b || someBreak (drop (i + 1) rows) tag n) ≡ refusesShape tag n
   unfolding tagTable
   next b l k =
-      let e : length rows ≡ 10 = alike-length rows tagTable (s .alike) in
+      let e : length rows ≡ rowCount = alike-length rows tagTable (s .alike) in
       let j : i < length rows = omega arith in
       rw (add-one, ← k) (rw (drop-cons rows i d j) at (s .rest))
 
   -- a row that breaks decides
-  pub hit : i < 10 → rowBreaks (getD rows i d) tag n ≡ true → true ≡ refusesShape tag n
+  pub hit : i < rowCount → rowBreaks (getD rows i d) tag n ≡ true → true ≡ refusesShape tag n
   hit l k = next true l k
 
   -- any other is passed
-  pub missed : i < 10 → rowBreaks (getD rows i d) tag n ≡ false → Searched rows tag n (i + 1)
+  pub missed : i < rowCount → rowBreaks (getD rows i d) tag n ≡ false → Searched rows tag n (i + 1)
   missed l k = record { within = omega arith; alike = s .alike; rest = next false l k }
 
 -- behind the last row nothing breaks
-pub ended : {rows : List TagRow} {tag n i : ℕ} → Searched rows tag n i → i ≡ 10 → false ≡ refusesShape tag n
+pub ended : {rows : List TagRow} {tag n i : ℕ} → Searched rows tag n i → i ≡ rowCount → false ≡ refusesShape tag n
 unfolding tagTable
 ended {rows} s e =
-    let e₁₀ : length rows ≡ 10 = alike-length rows tagTable (s .alike) in
-    let l : length rows ≤ 10 = omega arith in
+    let full : length rows ≡ rowCount = alike-length rows tagTable (s .alike) in
+    let l : length rows ≤ rowCount = omega arith in
     rw (e, drop-of-length-le rows l) at (s .rest)

@@ -1,4 +1,5 @@
 // Refusals 9 and 10: which tags a call takes, and the tag table of data lengths that a known tag may carry.
+use rules::certificate::Certificate;
 ghost use mathlib.Core.Path.{_≡_};
 ghost use Rattle.rules.specs.Refusals.{refusesTag, refusesTagAdd};
 ghost use Rattle.rules.specs.Tags.{refusesShape};
@@ -13,8 +14,11 @@ pub(crate) struct TagRow {
 // No length that a slice can have is greater.
 const ANY: usize = 0xffff_ffff_ffff_ffff;
 
-// Document 01's table, as amended by request 2 (tag 5), row by row.
-const TAG_TABLE: [TagRow; 10] = [
+// The number of rows.
+const ROWS: usize = 11;
+
+// Document 01's table, as amended by requests 2 (tag 5) and 5 (tag 0xfff010), row by row.
+const TAG_TABLE: [TagRow; ROWS] = [
     TagRow {
         tag: 1,
         least: 0,
@@ -65,6 +69,11 @@ const TAG_TABLE: [TagRow; 10] = [
         least: 16,
         most: 16,
     },
+    TagRow {
+        tag: Certificate::TAG,
+        least: Certificate::SIZE,
+        most: Certificate::SIZE,
+    },
 ];
 
 // Refusal 9, for every call but the adds.
@@ -88,7 +97,7 @@ pub fn refuses_shape(tag: u32, n: usize) -> bool
 {
     let table = TAG_TABLE;
     let mut i: usize = 0;
-    while i < 10 {
+    while i < ROWS {
         let row = table[i];
         if (row.tag == tag) & ((n < row.least) | (row.most < n)) {
             return true;

@@ -2,6 +2,7 @@
 // equation for the answer and one for each buffer that is lent for writing. What an edit is promised to do is one record, `Promised`:
 // its answer is that of the written rules, so is every lent byte afterwards, and where the number is 0 all of demand 3 holds. What a
 // conversion is promised to do is `ConvertPromised`, likewise, with what holds of a converted list.
+use certificate::certify;
 use convert::convert;
 use create::create;
 use edit::edits;
@@ -9,6 +10,7 @@ use relocate::relocate;
 use rules::CheckAnswer;
 use rules::DoneAnswer;
 use rules::FindAnswer;
+use rules::certificate::CertifiedAnswer;
 use tidy::tidy;
 use walk::check;
 use walk::find;
@@ -22,6 +24,7 @@ ghost use Rattle.rules.specs.Create.{create as createRule};
 ghost use Rattle.rules.specs.Edit.{toAdd, toAddAligned, toVoid, toRelocate, toTidy};
 ghost use Rattle.rules.specs.Demand3.{Promised};
 ghost use Rattle.rules.specs.Edition09.{check09, find09, findData09, ConvertPromised};
+ghost use Rattle.rules.specs.Certificate.{certify as certifyRule, certifiedAnswer};
 
 // Checks the list in area, which stands at base.
 #[no_mangle]
@@ -151,4 +154,12 @@ pub extern "C" fn tl_tidy(area: &mut [u8], base: u64) -> DoneAnswer
     ensures { λ r. ⌜ Promised toTidy (now (area .entry)) base r (now (area .exit)) ⌝ }
 {
     tidy::tidy(area, base).numbers()
+}
+
+// The reading of the list's one test certificate, if it is that of this serial and test, and whether it passes its gate.
+#[no_mangle]
+pub extern "C" fn tl_certificate(area: &[u8], base: u64, serial: u64, test: u64) -> CertifiedAnswer
+    ensures { λ r. ⌜ r ≡ certifiedAnswer (certifyRule (now (area .entry)) base serial test) ⌝ }
+{
+    certify::certify(area, base, serial, test).numbers()
 }

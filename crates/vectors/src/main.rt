@@ -1,10 +1,13 @@
-// Runs the paper's examples A to N, and examples of edition 0.9, of the event log's length, of tidying and of the checksum's exclusive or,
-// on real bytes and prints what the functions answer and leave; the file stdout holds what the papers' rules give. A line: the example,
-// the call, the answer's numbers, and the bytes: of a find the data, of create and an edit the whole area or target, of two large areas
-// the first 24 bytes; of the exclusive or the start, and the results over 0, 1, 2 .. bytes from there.
+// Runs the paper's examples A to N, and examples of edition 0.9, of the event log's length, of tidying, of the checksum's exclusive or and
+// of the test certificate, on real bytes and prints what the functions answer and leave; the file stdout holds what the papers' rules give.
+// A line: the example, the call, the answer's numbers, of a reading its 64 bits, and the bytes: of a find the data, of create, an edit and
+// a certificate the whole area or target, of two large areas the first 24 bytes; of the exclusive or the start, and the results over 0, 1,
+// 2 .. bytes from there.
 use rules::CheckAnswer;
 use rules::Done;
 use rules::FindAnswer;
+use rules::certificate::Certificate;
+use rules::certificate::Gate;
 
 fn number(n: u32) {
     io::write_all(1, b" ");
@@ -293,18 +296,22 @@ fn conversions_09() {
 
 // ---- The event log's length (document 02, request 2). The examples are our own.
 
-// Data by either add, each into a new list of 48 bytes.
+// Data by either add, each into a new list.
+fn show_adds(example: &[u8], area: &mut [u8], tag: u32, data: &[u8]) {
+    create::create(area, 0x1000, true);
+    let added = edit::edits::add(area, 0x1000, tag, data, false);
+    io::write_all(1, example);
+    show_done(b" add", added, area);
+    create::create(area, 0x1000, true);
+    let aligned = edit::edits::add_aligned(area, 0x1000, tag, data, 4);
+    io::write_all(1, example);
+    show_done(b" add aligned", aligned, area);
+}
+
+// Lists of 48 bytes.
 fn event_log(example: &[u8], data: &[u8]) {
     let mut area = [0u8; 48];
-    create::create(&mut area, 0x1000, true);
-    let added = edit::edits::add(&mut area, 0x1000, 5, data, false);
-    io::write_all(1, example);
-    show_done(b" add", added, &area);
-    let mut other = [0u8; 48];
-    create::create(&mut other, 0x1000, true);
-    let aligned = edit::edits::add_aligned(&mut other, 0x1000, 5, data, 4);
-    io::write_all(1, example);
-    show_done(b" add aligned", aligned, &other);
+    show_adds(example, &mut area, 5, data);
 }
 
 // A list made elsewhere whose event log has 3 bytes is read.
@@ -464,6 +471,234 @@ fn xors() {
     show_xors(&bytes, 300);
 }
 
+// ---- The test certificate (document 02, request 5). The first example is the request's, the others are our own.
+
+// The serial and the test of every certificate below.
+const SERIAL: u64 = 0x0123_4567_89ab_cdef;
+
+const TEST: u64 = 0x0fed_cba9_8765_4321;
+
+// The patterns of floats: 0.25, -100, 850, 900, -0.0, the next above 1, 2 to the 1023, infinity, no number.
+const QUARTER: u64 = 0x3fd0_0000_0000_0000;
+
+const MINUS_100: u64 = 0xc059_0000_0000_0000;
+
+const N_850: u64 = 0x408a_9000_0000_0000;
+
+const N_900: u64 = 0x408c_2000_0000_0000;
+
+const MINUS_0: u64 = 0x8000_0000_0000_0000;
+
+const OVER_1: u64 = 0x3ff0_0000_0000_0001;
+
+const HUGE: u64 = 0x7fe0_0000_0000_0000;
+
+const INFINITY: u64 = 0x7ff0_0000_0000_0000;
+
+const NO_NUMBER: u64 = 0x7ff8_0000_0000_0000;
+
+// The 64 bits of a float. Those of no number are not defined; it is shown by a pattern of its own.
+fn bits(x: f64) -> u64 {
+    if x == x {
+        return f64::to_bits(x);
+    }
+    NO_NUMBER
+}
+
+// The answer about the certificate of the list in area, and the area.
+fn show_certificate(example: &[u8], area: &[u8], serial: u64, test: u64) {
+    let a = transfer_list::tl_certificate(area, 0x1000, serial, test);
+    io::write_all(1, example);
+    io::write_all(1, b" certificate");
+    number(a.number);
+    number(a.pass);
+    io::write_all(1, b" ");
+    io::print_hex(1, bits(a.reading), 16);
+    show_bytes(area);
+    io::write_all(1, b"\n");
+}
+
+// A number's bytes, the least first, from at on, if there are that many.
+fn put4(a: &mut [u8], at: usize, n: u32) {
+    if 4 <= a.len() {
+        if at <= a.len() - 4 {
+            wire::write4(a, at, n);
+        }
+    }
+}
+
+fn put8(a: &mut [u8], at: usize, n: u64) {
+    if 8 <= a.len() {
+        if at <= a.len() - 8 {
+            wire::write8(a, at, n);
+        }
+    }
+}
+
+// A certificate's 56 bytes.
+fn put_certificate(d: &mut [u8], c: Certificate) {
+    put8(d, 0, c.serial);
+    put8(d, 8, c.test);
+    put4(d, 16, c.kind);
+    put4(d, 20, c.counts);
+    put8(d, 24, c.gain);
+    put8(d, 32, c.offset);
+    put8(d, 40, c.low);
+    put8(d, 48, c.high);
+}
+
+fn add_certificate(area: &mut [u8], c: Certificate) {
+    let mut data = [0u8; 56];
+    put_certificate(&mut data, c);
+    transfer_list::tl_add(area, 0x1000, Certificate::TAG, &data, false);
+}
+
+// A certificate with this serial and test.
+fn made(kind: u32, counts: u32, gain: u64, offset: u64, low: u64, high: u64) -> Certificate {
+    Certificate {
+        serial: SERIAL,
+        test: TEST,
+        kind,
+        counts,
+        gain,
+        offset,
+        low,
+        high,
+    }
+}
+
+// A reading of 900, at the high limit of its band.
+fn made_900() -> Certificate {
+    made(Gate::BAND, 4000, QUARTER, MINUS_100, N_850, N_900)
+}
+
+// A certificate in a new list.
+fn certify(example: &[u8], c: Certificate) {
+    let mut area = [0u8; 88];
+    create::create(&mut area, 0x1000, true);
+    add_certificate(&mut area, c);
+    show_certificate(example, &area, SERIAL, TEST);
+}
+
+// Any gate for a gauge with gain 0.25 and offset -100: kind, counts, low, high.
+fn gate(kind: u32, counts: u32, low: u64, high: u64) {
+    certify(b"gate", made(kind, counts, QUARTER, MINUS_100, low, high));
+}
+
+fn gates() {
+    // A band at its high, above, at its low, below; a ceiling at it, above; a floor at it, below; the most counts.
+    gate(1, 4000, N_850, N_900);
+    gate(1, 4001, N_850, N_900);
+    gate(1, 3800, N_850, N_900);
+    gate(1, 3799, N_850, N_900);
+    gate(2, 4000, 0, N_900);
+    gate(2, 4001, 0, N_900);
+    gate(3, 4000, N_900, 0);
+    gate(3, 3999, N_900, 0);
+    gate(3, 0x100_0000, N_900, 0);
+    // Refused: more counts; other kinds; an unused limit of -0.0; a band's low above its high; limits that are not finite.
+    gate(3, 0x100_0001, N_900, 0);
+    gate(0, 4000, N_850, N_900);
+    gate(4, 4000, N_850, N_900);
+    gate(257, 4000, N_850, N_900);
+    gate(2, 4000, MINUS_0, N_900);
+    gate(3, 4000, N_900, MINUS_0);
+    gate(1, 4000, N_900, N_850);
+    gate(3, 4000, NO_NUMBER, 0);
+    gate(3, 4000, 0xfff0_0000_0000_0000, 0);
+    gate(2, 4000, 0, NO_NUMBER);
+    gate(2, 4000, 0, INFINITY);
+}
+
+// Any gauge with a floor of 0.0: counts, gain, offset.
+fn gauge(counts: u32, gain: u64, offset: u64) {
+    certify(b"gauge", made(Gate::FLOOR, counts, gain, offset, 0, 0));
+}
+
+fn gauges() {
+    // The least gain; a product that is rounded before -3 is added: of the exact one 3 times 2 to the -52 would be left, and not 2 to the -50.
+    gauge(1, 1, 0);
+    gauge(3, OVER_1, 0xc008_0000_0000_0000);
+    // Refused: a gain of 0.0, of -0.0, below, infinite, no number, no number that signals; an offset that is infinite, no number; a product
+    // that is infinite with an offset that is not; a sum.
+    gauge(4000, 0, N_900);
+    gauge(4000, MINUS_0, N_900);
+    gauge(4000, 0xbfd0_0000_0000_0000, N_900);
+    gauge(4000, INFINITY, N_900);
+    gauge(4000, NO_NUMBER, N_900);
+    gauge(4000, 0x7ff0_0000_0000_0001, N_900);
+    gauge(4000, QUARTER, INFINITY);
+    gauge(4000, QUARTER, NO_NUMBER);
+    gauge(2, HUGE, 0xffef_ffff_ffff_ffff);
+    gauge(1, HUGE, HUGE);
+    // 0.0 and -0.0 add up to 0.0, which a band from 0.0 to -0.0 lets pass.
+    certify(
+        b"band of zeros",
+        made(Gate::BAND, 0, QUARTER, MINUS_0, 0, MINUS_0),
+    );
+}
+
+// None; one; another serial and another test, by their highest bits; two; those and a wrong checksum, which comes first.
+fn certificates_in_a_list() {
+    let mut area = [0u8; 152];
+    create::create(&mut area, 0x1000, true);
+    show_certificate(b"none", &area, SERIAL, TEST);
+    add_certificate(&mut area, made_900());
+    show_certificate(b"one", &area, SERIAL, TEST);
+    show_certificate(b"another serial", &area, 0x8123_4567_89ab_cdef, TEST);
+    show_certificate(b"another test", &area, SERIAL, 0x8fed_cba9_8765_4321);
+    add_certificate(&mut area, made_900());
+    show_certificate(b"two", &area, SERIAL, TEST);
+    area[4] = area[4] ^ 1;
+    show_certificate(b"two and bad checksum", &area, SERIAL, TEST);
+}
+
+// Lists of 96 bytes, which have room for each length.
+fn certificate_of(example: &[u8], data: &[u8]) {
+    let mut area = [0u8; 96];
+    show_adds(example, &mut area, Certificate::TAG, data);
+}
+
+// Beside an entry of 12 bytes, whose tag then becomes the certificate's by hand. No checksum.
+fn certificate_beside_12() {
+    let mut area = [0u8; 112];
+    create::create(&mut area, 0x1000, false);
+    add_certificate(&mut area, made_900());
+    edit::edits::add(&mut area, 0x1000, 1, b"0123456789ab", false);
+    show_certificate(b"beside tag 1", &area, SERIAL, TEST);
+    put4(&mut area, 88, 0x08ff_f010);
+    show_certificate(b"beside one of 12", &area, SERIAL, TEST);
+}
+
+// Alone, with a data_size that is made 55 by hand. No checksum.
+fn certificate_of_55() {
+    let mut area = [0u8; 88];
+    create::create(&mut area, 0x1000, false);
+    add_certificate(&mut area, made_900());
+    area[28] = 55;
+    show_certificate(b"one of 55", &area, SERIAL, TEST);
+}
+
+// From the second byte on.
+fn put_second(d: &mut [u8], c: Certificate) {
+    if 1 <= d.len() {
+        put_certificate(&mut d[1..], c);
+    }
+}
+
+// An entry of 57 bytes becomes version 2's by hand, with a header of 9 bytes, the tag and 56 bytes of data at an odd address.
+fn certificate_at_odd_address() {
+    let mut data = [0u8; 57];
+    put_second(&mut data, made_900());
+    let mut area = [0u8; 96];
+    create::create(&mut area, 0x1000, false);
+    edit::edits::add(&mut area, 0x1000, 1, &data, false);
+    area[5] = 2;
+    put4(&mut area, 24, 0x09ff_f010);
+    put4(&mut area, 28, 56);
+    show_certificate(b"at an odd address", &area, SERIAL, TEST);
+}
+
 fn main() {
     examples_a_to_d();
     example_e(b"0123456789abcdefg");
@@ -499,4 +734,13 @@ fn main() {
     tidy_for_room();
     tidy_nothing();
     xors();
+    gates();
+    gauges();
+    certificates_in_a_list();
+    certificate_of(b"certificate of 55", &[0u8; 55]);
+    certificate_of(b"certificate of 56", &[0u8; 56]);
+    certificate_of(b"certificate of 57", &[0u8; 57]);
+    certificate_beside_12();
+    certificate_of_55();
+    certificate_at_odd_address();
 }

@@ -1,4 +1,5 @@
-// The check, and the survey of a list: its check that tells the header and a wanted entry too, for find, the edits and the conversion.
+// The check, and the survey of a list: its check that tells the header and a wanted entry too, for find, the edits, the conversion and the
+// certificate, which seeks a second entry.
 use crate::cursor;
 use crate::cursor::Walked;
 use crate::format::Format;
@@ -15,10 +16,12 @@ ghost use mathlib.Core.Bool.{false};
 ghost use Prim.Native.Nat.{_≤_};
 ghost use lib.ListN.{length};
 ghost use Rattle.rules.specs.Header.{headerOf};
+ghost use Rattle.rules.specs.Entries.{firstEntry, entriesOf};
 ghost use Rattle.rules.specs.Checksum.{checksumHolds};
 ghost use Rattle.rules.specs.Check.{checksOf, check as checkRule};
 ghost use Rattle.rules.specs.Edition09.{edition09, sumHolds};
 ghost use Rattle.walk.specs.Format.{editionOf};
+ghost use Rattle.walk.specs.Wanted.{wantedOf, sought};
 ghost use Rattle.walk.specs.Survey.{surveyIn, surveyOf, refusalOfSurveyed};
 
 // The answer of a survey: what the check answers, the header, and the wanted entry.
@@ -123,4 +126,15 @@ pub fn check(area: &[u8], base: u64) -> Checked
     ensures { λ r. ⌜ r ≡ checkRule (now (area .entry)) base ⌝ }
 {
     check_of(Format::Current, area, base)
+}
+
+// Another wanted entry of a list that was surveyed, whose header is h.
+pub fn seek(a: &[u8], h: Header, w: Wanted) -> Sought
+    requires { ⌜ (h ≡ headerOf (now a)) × (firstEntry h ≤ h .«used_size») × (h .«used_size» ≤ length (now a)) ⌝ }
+    ensures { λ r. ⌜ r ≡ sought (wantedOf w (entriesOf (now (a .entry)))) ⌝ }
+{
+    match cursor::walk(a, h, w) {
+        Walked::Counts(_, _, found) => found,
+        Walked::Broken(_) => Sought::Nothing,
+    }
 }

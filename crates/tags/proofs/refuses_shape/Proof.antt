@@ -3,7 +3,7 @@ use Prim.Native.Nat.{_-_}
 use native.Mathlib.Omega.{arith}
 use borrow.Author.Needs.{needs}
 use Rattle.rules.specs.Tags.{tagTable}
-use Rattle.tags.proofs.Laws.{Searched, begun, hit, missed, ended}
+use Rattle.tags.proofs.Laws.{rowCount, Searched, begun, hit, missed, ended}
 use Rattle.tags.proofs.refuses_shape.Statement.{statement}
 use Rattle.tags.proofs.refuses_shape.Tie as tie
 
@@ -11,7 +11,7 @@ abbrev Inv-loop : tie.InvT-loop
 Inv-loop tag n table i₀ i = Searched table tag n i
 
 abbrev μ-loop : tie.MeasureT-loop
-μ-loop tag n table i₀ i = 10 - i
+μ-loop tag n table i₀ i = rowCount - i
 
 loop-holds : tie.Need-loop-holds Inv-loop μ-loop
 unfolding tagTable

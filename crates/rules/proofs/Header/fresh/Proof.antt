@@ -1,15 +1,9 @@
 -- Every field is the number that the rule gives; has_checksum as a number is 1 or 0.
 use borrow.Author.Needs.{needs}
-use mathlib.Core.Path.{_≡_, refl}
-use mathlib.Core.Bool.{Bool, true, false, cond}
-use mir.Val.{boolByte}
 use Rattle.rules.specs.Header.{freshHeader}
+use Rattle.rules.proofs.Bools.{as-number}
 use Rattle.rules.proofs.Header.fresh.Statement.{statement}
 use Rattle.rules.proofs.Header.fresh.Tie as tie
-
-as-number : (t : Bool) → boolByte t ≡ cond t 1 0
-as-number true = refl
-as-number false = refl
 
 cast-t3 : tie.Need-cast-t3
 cast-t3 c = search needs

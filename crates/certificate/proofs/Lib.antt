@@ -1,0 +1,2 @@
+-- Laws of the certificate's place in a list.
+pub mod Laws
