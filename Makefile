@@ -1,18 +1,22 @@
-# make run       the demonstration: the paper's first examples, a full list tidied, a bench's boot over the library up to the valves'
-#                test certificates, a list of edition 0.9 converted
+# make run       the demonstration: the paper's first examples, a full list tidied, a bench's boot over the library, which reads a device
+#                tree, up to the valves' test certificates, a list of edition 0.9 converted
 # make show      the entries of a list in a file: FILE=.. BASE=..; without a file, a sample
 # make test      everything that is checked; ends with rt ci, whose last line is 'N passed, 0 failed'
 # make lib       target/staticlib/libtransfer_list.a, for C on x86-64
 # make install   the archive, the header and a pkg-config file under PREFIX (default /usr/local)
 # make ctest     a C program over the header: every answer and byte as stored; the structures' layout
 # make compare   the library beside the independent second program: LISTS=N SEED=S
-# make bench     the library beside plain Rust; SHIFT=16, 32 or 48 puts the library's functions so many bytes behind a
-#                line of 64 bytes
+# make bench     the library beside plain Rust, and its device trees beside libfdt too where that is installed; SHIFT=16, 32 or 48 puts
+#                the library's functions so many bytes behind a line of 64 bytes
+# make fdt-compare  device trees from dtc, damaged, beside libfdt: TREES=N SEED=S; it installs Debian's device-tree-compiler and libfdt-dev
+#                where they are missing, and is no part of make test
 # make size      the archive's sections
 #
-# It needs the Rattle kit (rt), make, gcc and g++ with binutils, and for compare, test and bench cargo. Nothing is fetched from a network.
+# It needs the Rattle kit (rt), make, gcc and g++ with binutils, and for compare, test and bench cargo. But for fdt-compare, nothing is fetched
+# from a network.
 
 LISTS = 200000
+TREES = 1000000
 SEED = 1
 SHIFT = 0
 PREFIX = /usr/local
@@ -24,7 +28,7 @@ TIMED = target/staticlib/libtimed.a
 C_FLAGS = -std=c99 $(CFLAGS) -Iinclude
 CARGO = cargo build --quiet --release --offline
 
-.PHONY: run show test lib install ctest compare bench fmt-check header-check symbols-check oracle-test size
+.PHONY: run show test lib install ctest compare fdt-compare bench fmt-check header-check symbols-check oracle-test size
 
 run: target/demo/paper target/demo/boot target/demo/edition09
 	target/demo/paper
@@ -49,6 +53,9 @@ target/demo/%: demo/%.c demo/table.c demo/table.h include/transfer_list.h $(LIB)
 	mkdir -p target/demo
 	$(CC) $(C_FLAGS) -o $@ $< demo/table.c $(LIB)
 
+# it includes the tree's bytes
+target/demo/boot: demo/bench_dtb.h
+
 install: $(LIB)
 	install -d $(DESTDIR)$(PREFIX)/lib/pkgconfig $(DESTDIR)$(PREFIX)/include
 	install -m 644 $(LIB) $(DESTDIR)$(PREFIX)/lib/
@@ -70,6 +77,18 @@ target/ctest/answers: ctest/answers.c include/transfer_list.h $(LIB)
 compare: $(LIB)
 	$(CARGO) --manifest-path oracle/Cargo.toml --target-dir target/oracle
 	target/oracle/release/oracle $(LISTS) $(SEED)
+
+# what dtc makes of fdt/sources: the trees that are kept, the remedy for old bytes in padding, and the library beside libfdt
+fdt-compare: target/fdt/look
+	fdt/install
+	fdt/build target/fdt
+	fdt/remedy target/fdt
+	$(CC) $(C_FLAGS) -o target/fdt/compare fdt/compare.c fdt/damage.c fdt/words.c $(LIB) -lfdt
+	target/fdt/compare $(SEED) $(TREES) target/fdt/*.dtb
+
+target/fdt/look: fdt/look.c include/transfer_list.h $(LIB)
+	mkdir -p target/fdt
+	$(CC) $(C_FLAGS) -o $@ $< $(LIB)
 
 # the second program's own examples, which need no library
 oracle-test:

@@ -2,7 +2,7 @@
  * The paper's examples A to N (it has no L) and every refusal, through the header alone. For each call every field of the answer is
  * printed, how many bytes changed, and the bytes where any did. `make ctest` compares this with answers.expected, which was worked out
  * from the paper and not with this library. The examples of edition 0.9 are our own, since source 000 has none, and so are those of
- * document 02, requests 2, 3 and 5, but for the reading of 900.
+ * document 02, requests 2, 3, 5 and 6, but for the reading of 900.
  */
 #include <float.h>
 #include <inttypes.h>
@@ -1332,6 +1332,683 @@ static void certificate_adds(void)
     source = data;
 }
 
+/* A device tree by hand, each number's highest byte first. */
+static const uint8_t hand_tree[176] = {
+    0xd0, 0x0d, 0xfe, 0xed, 0x00, 0x00, 0x00, 0xb0, /*   0 magic; totalsize 176 */
+    0x00, 0x00, 0x00, 0x48, 0x00, 0x00, 0x00, 0xac, /*   8 the structure is at 72, the strings at 172 */
+    0x00, 0x00, 0x00, 0x28, 0x00, 0x00, 0x00, 0x11, /*  16 the reservations at 40; version 17 */
+    0x00, 0x00, 0x00, 0x10, 0x00, 0x00, 0x00, 0x00, /*  24 last compatible 16; boot cpu 0 */
+    0x00, 0x00, 0x00, 0x04, 0x00, 0x00, 0x00, 0x64, /*  32 the strings have 4 bytes, the structure 100 */
+    0x00, 0x00, 0x00, 0x00, 0x80, 0x00, 0x00, 0x00, /*  40 a reservation: address */
+    0x00, 0x00, 0x00, 0x00, 0x00, 0x00, 0x10, 0x00, /*  48 and size */
+    0x00, 0x00, 0x00, 0x00, 0x00, 0x00, 0x00, 0x00, /*  56 the pair of zeros */
+    0x00, 0x00, 0x00, 0x00, 0x00, 0x00, 0x00, 0x00, /*  64 */
+    0x00, 0x00, 0x00, 0x01, 0x00, 0x00, 0x00, 0x00, /*  72 the root */
+    0x00, 0x00, 0x00, 0x03, 0x00, 0x00, 0x00, 0x03, /*  80   a property of 3 bytes */
+    0x00, 0x00, 0x00, 0x00, 0xaa, 0xbb, 0xcc, 0x00, /*  88   p = aa bb cc */
+    0x00, 0x00, 0x00, 0x03, 0x00, 0x00, 0x00, 0x00, /*  96   a property without bytes */
+    0x00, 0x00, 0x00, 0x02, 0x00, 0x00, 0x00, 0x01, /* 104   q; a node */
+    0x61, 0x00, 0x00, 0x00, 0x00, 0x00, 0x00, 0x03, /* 112   a */
+    0x00, 0x00, 0x00, 0x04, 0x00, 0x00, 0x00, 0x00, /* 120     a property of 4 bytes: p */
+    0x11, 0x22, 0x33, 0x44, 0x00, 0x00, 0x00, 0x01, /* 128     = 11 22 33 44; a node */
+    0x62, 0x40, 0x31, 0x00, 0x00, 0x00, 0x00, 0x03, /* 136     b@1 */
+    0x00, 0x00, 0x00, 0x01, 0x00, 0x00, 0x00, 0x03, /* 144       a property of 1 byte, whose name is the empty one at the last zero */
+    0x55, 0x00, 0x00, 0x00, 0x00, 0x00, 0x00, 0x02, /* 152       = 55 */
+    0x00, 0x00, 0x00, 0x02, 0x00, 0x00, 0x00, 0x02, /* 160 the nodes' ends */
+    0x00, 0x00, 0x00, 0x09, 0x70, 0x00, 0x71, 0x00, /* 168 END; the strings p and q */
+};
+
+static void fdt_check(void)
+{
+    printf("tl_fdt_check: %zu bytes\n", len);
+    keep();
+    printf("  number %" PRIu32 "\n", tl_fdt_check(len == 0 ? NULL : area.now, len));
+    show_buffer(&area, len);
+}
+
+static void show_text(const char *text, size_t n)
+{
+    putchar('"');
+    for (size_t i = 0; i < n; i++)
+        text[i] == 0 ? printf("\\0") : putchar(text[i]);
+    putchar('"');
+}
+
+/* A path or name without bytes is lent as NULL. */
+static void fdt_find_bytes(const char *path, size_t path_len, const char *name, size_t name_len)
+{
+    const uint8_t *p = (const uint8_t *)path, *n = (const uint8_t *)name;
+    printf("tl_fdt_find: ");
+    show_text(path, path_len);
+    putchar(' ');
+    show_text(name, name_len);
+    putchar('\n');
+    keep();
+    show_found(tl_fdt_find(len == 0 ? NULL : area.now, len, path_len == 0 ? NULL : p, path_len, name_len == 0 ? NULL : n, name_len));
+}
+
+static void fdt_find(const char *path, const char *name)
+{
+    fdt_find_bytes(path, strlen(path), name, strlen(name));
+}
+
+/* Not a call: the tree by hand. Every further byte of the area is ee. */
+static void put_hand_tree(size_t new_len)
+{
+    len = new_len;
+    memset(area.now, 0xee, SPACE);
+    memcpy(area.now, hand_tree, sizeof hand_tree);
+    printf("by hand: the device tree of 176 bytes, %zu lent\n", len);
+}
+
+static void write_word(size_t at, uint32_t word)
+{
+    for (size_t i = 0; i < 4; i++)
+        area.now[at + i] = (uint8_t)(word >> (24 - 8 * i));
+}
+
+/* Not a call: a number of the tree, its highest byte first. */
+static void put_word(size_t at, uint32_t word)
+{
+    printf("by hand: the number at %zu is 0x%" PRIx32 "\n", at, word);
+    write_word(at, word);
+}
+
+/* The tree by hand with another number at one place. */
+static void fdt_but(size_t at, uint32_t word)
+{
+    put_hand_tree(176);
+    put_word(at, word);
+    fdt_check();
+}
+
+enum { TOTAL = 4, STRUCT = 8, STRINGS = 12, RESERVED = 16, VERSION = 20, COMPATIBLE = 24, CPU = 28, STRINGS_SIZE = 32, STRUCT_SIZE = 36 };
+
+static void fdt_header(void)
+{
+    title("device tree by hand: accepted, and what is in it; 13 NONE");
+    put_hand_tree(176);
+    show_hex(area.now, len);
+    fdt_check();
+    fdt_find("/", "p");
+    fdt_find("/", "q");
+    fdt_find("/a", "p");
+    fdt_find("/a/b@1", "");
+    fdt_find("/a/b@1", "p");
+    fdt_find("/a", "q");
+    fdt_find("/b@1", "");
+    title("device tree, 21: no bytes, lent as NULL; 39 bytes; one too few; more than totalsize are accepted");
+    len = 0;
+    fdt_check();
+    fdt_find("/", "p");
+    fdt_find("", "");
+    len = 39;
+    fdt_check();
+    fdt_find("/", "p");
+    len = 40;
+    fdt_check();
+    len = 175;
+    fdt_check();
+    len = 177;
+    fdt_check();
+    fdt_find("/a", "p");
+    len = 65600;
+    fdt_check();
+    title("device tree, 21: the magic number; version and last compatible are exactly 17 and 16; the boot cpu is not judged");
+    fdt_but(0, 0xd10dfeed);
+    fdt_but(0, 0xd00cfeed);
+    fdt_but(0, 0xd00dfeec);
+    fdt_but(0, 0xedfe0dd0);
+    fdt_but(VERSION, 16);
+    fdt_but(VERSION, 18);
+    fdt_but(VERSION, 0x11000000);
+    fdt_but(VERSION, 0x10011);
+    fdt_but(COMPATIBLE, 15);
+    fdt_but(COMPATIBLE, 17);
+    fdt_but(COMPATIBLE, 0x01000010);
+    fdt_but(CPU, 0xffffffff);
+    title("device tree: totalsize reaches to the strings' end and not over the length; what is behind the strings is not judged");
+    fdt_but(TOTAL, 175);
+    fdt_but(TOTAL, 177);
+    fdt_but(TOTAL, 0);
+    fdt_but(TOTAL, 0xffffffff);
+    put_hand_tree(200);
+    put_word(TOTAL, 200);
+    fdt_check();
+    fdt_find("/a/b@1", "");
+    put_word(TOTAL, 201);
+    fdt_check();
+}
+
+/* The tree by hand with bytes ee between its blocks and behind them; order 0 is the right one. */
+static void put_spread(int order, size_t before, size_t between, size_t behind)
+{
+    static const size_t fields[3] = {RESERVED, STRUCT, STRINGS}, sizes[3] = {32, 100, 4}, starts[3] = {40, 72, 172};
+    static const int orders[4][3] = {{0, 1, 2}, {0, 2, 1}, {1, 0, 2}, {2, 0, 1}};
+    size_t at = 40 + before;
+    put_hand_tree(176);
+    memset(area.now + 40, 0xee, SPACE - 40);
+    for (size_t i = 0; i < 3; i++) {
+        int k = orders[order][i];
+        memcpy(area.now + at, hand_tree + starts[k], sizes[k]);
+        write_word(fields[k], (uint32_t)at);
+        at += sizes[k] + (i < 2 ? between : behind);
+    }
+    write_word(TOTAL, (uint32_t)at);
+    len = at;
+    printf("by hand: its blocks in order %d, %zu bytes before them, %zu between them, %zu behind\n", order, before, between, behind);
+    show_hex(area.now, len);
+    fdt_check();
+    fdt_find("/", "p");
+}
+
+static void fdt_blocks(void)
+{
+    title("device tree: gaps of any bytes between the blocks; offsets that are no multiples, 21");
+    put_spread(0, 8, 4, 3);
+    put_spread(0, 0, 8, 0);
+    put_spread(0, 4, 4, 0);
+    put_spread(0, 8, 2, 0);
+    title("device tree, 21: another order of the blocks");
+    put_spread(1, 0, 0, 0);
+    put_spread(2, 0, 4, 0);
+    put_spread(3, 0, 4, 0);
+    title("device tree: the reservations' offset: over the header, no multiple of 8, at the pair of zeros, behind it");
+    fdt_but(RESERVED, 0);
+    fdt_but(RESERVED, 32);
+    fdt_but(RESERVED, 44);
+    fdt_but(RESERVED, 48);
+    fdt_but(RESERVED, 56);
+    fdt_but(RESERVED, 57);
+    fdt_but(RESERVED, 60);
+    fdt_but(RESERVED, 64);
+    fdt_but(RESERVED, 72);
+    fdt_but(RESERVED, 176);
+    fdt_but(RESERVED, 0xfffffff8);
+    title("device tree, 21: the structure's offset and size");
+    fdt_but(STRUCT, 68);
+    fdt_but(STRUCT, 71);
+    fdt_but(STRUCT, 74);
+    fdt_but(STRUCT, 76);
+    fdt_but(STRUCT, 0xfffffffc);
+    fdt_but(STRUCT_SIZE, 0);
+    fdt_but(STRUCT_SIZE, 96);
+    fdt_but(STRUCT_SIZE, 99);
+    fdt_but(STRUCT_SIZE, 101);
+    fdt_but(STRUCT_SIZE, 104);
+    fdt_but(STRUCT_SIZE, 0xffffffb8);
+    fdt_but(STRUCT_SIZE, 0xfffffffc);
+    title("device tree, 21: the strings' offset, one byte inside the structure, one too late; their size, one too small, one too great");
+    fdt_but(STRINGS, 171);
+    fdt_but(STRINGS, 173);
+    fdt_but(STRINGS, 40);
+    fdt_but(STRINGS, 0xfffffffc);
+    fdt_but(STRINGS_SIZE, 3);
+    fdt_but(STRINGS_SIZE, 5);
+    fdt_but(STRINGS_SIZE, 0);
+    fdt_but(STRINGS_SIZE, 0xffffffff);
+    fdt_but(STRINGS_SIZE, 0xffffff54);
+    title("device tree: strings up to totalsize, and not one byte more");
+    put_hand_tree(200);
+    put_word(TOTAL, 200);
+    put_word(STRINGS_SIZE, 28);
+    fdt_check();
+    fdt_find("/", "q");
+    put_word(STRINGS_SIZE, 29);
+    fdt_check();
+    title("device tree, 21: the strings begin at the structure's last byte, and each name is said to be one later");
+    put_hand_tree(176);
+    put_word(STRINGS, 171);
+    put_word(STRINGS_SIZE, 5);
+    put_word(88, 1);
+    put_word(104, 3);
+    put_word(124, 1);
+    put_word(148, 4);
+    fdt_check();
+}
+
+static void fdt_reservations(void)
+{
+    title("device tree: a pair with one half zero does not end the reservations; sixteen zero bytes do, at a step of 16 only");
+    put_hand_tree(176);
+    put(40, 8, 0);
+    fdt_check();
+    put_hand_tree(176);
+    put(48, 8, 0);
+    fdt_check();
+    put_hand_tree(176);
+    put(40, 16, 0);
+    put(56, 16, 0xee);
+    fdt_check();
+    fdt_but(60, 1);
+    fdt_but(68, 1);
+    fdt_but(56, 0x80000000);
+    fdt_but(64, 0x80000000);
+    put_hand_tree(176);
+    put(40, 32, 0xee);
+    put(48, 16, 0);
+    fdt_check();
+    put_hand_tree(176);
+    put(40, 32, 0xee);
+    fdt_check();
+}
+
+/* Not a call: a tree whose structure is these words. The strings are p and q. */
+static void put_words(const uint32_t *words, size_t n)
+{
+    static const uint8_t strings[4] = {'p', 0, 'q', 0};
+    len = 60 + 4 * n;
+    memset(area.now, 0xee, SPACE);
+    memcpy(area.now, hand_tree, 40);
+    memset(area.now + 40, 0, 16);
+    write_word(TOTAL, (uint32_t)len);
+    write_word(STRUCT, 56);
+    write_word(STRINGS, (uint32_t)(56 + 4 * n));
+    write_word(STRUCT_SIZE, (uint32_t)(4 * n));
+    printf("by hand: a tree of");
+    for (size_t i = 0; i < n; i++) {
+        printf(" %" PRIx32, words[i]);
+        write_word(56 + 4 * i, words[i]);
+    }
+    printf("\n");
+    memcpy(area.now + 56 + 4 * n, strings, 4);
+}
+
+#define WORDS(...) put_words((const uint32_t[]){__VA_ARGS__}, sizeof((const uint32_t[]){__VA_ARGS__}) / 4)
+#define JUDGE(...) (WORDS(__VA_ARGS__), fdt_check())
+#define P 3, 4, 0, 0x11223344 /* the property p of four bytes */
+#define Q 3, 0, 2             /* the property q without bytes */
+#define A 1, 0x61000000       /* a node of one letter */
+#define B 1, 0x62000000
+
+static void fdt_tokens(void)
+{
+    title("device tree: a root and END, and no less");
+    JUDGE(1, 0, 2, 9);
+    JUDGE(9);
+    JUDGE(4);
+    JUDGE(4, 9);
+    JUDGE(2, 9);
+    JUDGE(1, 0, 2);
+    JUDGE(1, 0, 2, 4);
+    JUDGE(1, 0, 9);
+    JUDGE(1, 0);
+    JUDGE(1);
+    WORDS(1, 0, 2, 9);
+    put_word(STRUCT_SIZE, 0);
+    fdt_check();
+    title("device tree: nothing behind END, one root, no property outside it");
+    JUDGE(1, 0, 2, 9, 4);
+    JUDGE(1, 0, 2, 9, 9);
+    JUDGE(1, 0, 2, 9, 0);
+    JUDGE(1, 0, 2, 1, 0, 2, 9);
+    JUDGE(1, 0, 2, 4, 1, 0, 2, 9);
+    JUDGE(P, 1, 0, 2, 9);
+    JUDGE(4, Q, 1, 0, 2, 9);
+    JUDGE(1, 0, 2, P, 9);
+    JUDGE(1, 0, 2, 2, 9);
+    JUDGE(1, 0, A, 2, 9);
+    JUDGE(1, 0, A, 2, 2, 2, 9);
+    JUDGE(1, 0, 9, 2, 9);
+    JUDGE(1, 0, A, 9, 2, 2, 9);
+    title("device tree: NOP before any token: the root, a property, a node, END_NODE, END; by twos");
+    JUDGE(4, 1, 0, P, A, Q, 2, 2, 9);
+    JUDGE(1, 0, 4, P, A, Q, 2, 2, 9);
+    JUDGE(1, 0, P, 4, A, Q, 2, 2, 9);
+    JUDGE(1, 0, P, A, 4, Q, 2, 2, 9);
+    JUDGE(1, 0, P, A, Q, 4, 2, 2, 9);
+    JUDGE(1, 0, P, A, Q, 2, 4, 2, 9);
+    JUDGE(1, 0, P, A, Q, 2, 2, 4, 9);
+    JUDGE(4, 4, 1, 0, 4, 4, P, 4, 4, A, 4, 4, Q, 4, 4, 2, 4, 4, 2, 4, 4, 9);
+    fdt_find("/", "p");
+    fdt_find("/a", "q");
+    title("device tree: a property behind a subnode is 21, with a NOP between too; one in the subnode, and one before it, are accepted");
+    JUDGE(1, 0, P, Q, A, P, 2, B, Q, P, 2, 2, 9);
+    JUDGE(1, 0, A, 2, P, 2, 9);
+    JUDGE(1, 0, A, 2, 4, Q, 2, 9);
+    JUDGE(1, 0, Q, A, P, 2, Q, 2, 9);
+    JUDGE(1, 0, A, B, 2, P, 2, 2, 9);
+    JUDGE(1, 0, A, P, B, 2, 2, P, 2, 9);
+    title("device tree, 21: any other token");
+    for (uint32_t token = 0; token <= 10; token++)
+        JUDGE(1, 0, token, 2, 9);
+    JUDGE(1, 0, 0x01000000, 0, 2, 2, 9);
+    JUDGE(1, 0, 0x04000000, 2, 9);
+    JUDGE(0x01000000, 0, 2, 9);
+    JUDGE(1, 0, 0x02000000, 9);
+    JUDGE(1, 0, 2, 0x09000000);
+    JUDGE(1, 0, 0xffffffff, 2, 9);
+    JUDGE(1, 0, 0x10002, 9);
+    JUDGE(1, 0, 0x104, 2, 9);
+}
+
+static void fdt_names(void)
+{
+    title("device tree, 21: the root's name is not empty; a node's name does not end in the structure; no name at all");
+    JUDGE(1, 0x61000000, 2, 9);
+    JUDGE(1, 0x2f000000, 2, 9);
+    JUDGE(1, 0, 1, 0x61626364, 0, 2, 2, 9);
+    JUDGE(1, 0, 1, 0x61626364, 2, 2, 9);
+    JUDGE(1, 0, 1, 0x61626300, 2, 2, 9);
+    JUDGE(1, 0, 1, 0x61626364);
+    JUDGE(1, 0, 1);
+    title("device tree: no letter is judged; what is behind the first zero is padding, and must be zero, each byte of it");
+    JUDGE(1, 0, 1, 0x01ff2f00, 2, 1, 0x2f2f0000, 2, 2, 9);
+    JUDGE(1, 0, 1, 0x61010000, 2, 2, 9);
+    JUDGE(1, 0, 1, 0x61000100, 2, 2, 9);
+    JUDGE(1, 0, 1, 0x61000001, 2, 2, 9);
+    JUDGE(1, 0, 1, 0x61620001, 2, 2, 9);
+    JUDGE(1, 0, 1, 0x61626364, 0x00000001, 2, 2, 9);
+    JUDGE(1, 0, 1, 0x61626364, 0x00010000, 2, 2, 9);
+    JUDGE(1, 0x00010000, 2, 9);
+    JUDGE(1, 0x00000001, 2, 9);
+    title("device tree: empty names below the root, equal siblings and equal properties are accepted");
+    JUDGE(1, 0, 1, 0, 2, 1, 0, 2, 2, 9);
+    JUDGE(1, 0, P, P, Q, P, A, P, 2, A, P, 2, 2, 9);
+    title("device tree: a property's name: at the last zero byte, accepted; at the strings' size, and beyond, 21");
+    JUDGE(1, 0, 3, 0, 1, 2, 9);
+    JUDGE(1, 0, 3, 0, 3, 2, 9);
+    fdt_find("/", "");
+    JUDGE(1, 0, 3, 0, 4, 2, 9);
+    JUDGE(1, 0, 3, 0, 5, 2, 9);
+    JUDGE(1, 0, 3, 0, 0x80000000, 2, 9);
+    JUDGE(1, 0, 3, 0, 0xffffffff, 2, 9);
+    JUDGE(1, 0, 3, 0, 0xffffffb4, 2, 9);
+    title("device tree: a property's name must end inside the strings block: a zero byte behind it does not serve");
+    WORDS(1, 0, Q, 2, 9);
+    put_word(STRINGS_SIZE, 3);
+    fdt_check();
+    WORDS(1, 0, 3, 0, 0, 2, 9);
+    put_word(STRINGS_SIZE, 3);
+    fdt_check();
+    fdt_find("/", "p");
+    put_word(STRINGS_SIZE, 2);
+    fdt_check();
+    put_word(STRINGS_SIZE, 1);
+    fdt_check();
+    put_word(STRINGS_SIZE, 0);
+    fdt_check();
+    title("device tree: an empty strings block, at the structure's end, at totalsize; not before, not behind");
+    WORDS(1, 0, A, 2, 2, 9);
+    put_word(STRINGS_SIZE, 0);
+    fdt_check();
+    put_word(STRINGS, 88);
+    fdt_check();
+    put_word(STRINGS, 89);
+    fdt_check();
+    put_word(STRINGS, 83);
+    fdt_check();
+    put_word(STRINGS, 0);
+    fdt_check();
+}
+
+static void fdt_values(void)
+{
+    title("device tree: values of 0 to 8 bytes; padding behind them is zero, each byte of it");
+    JUDGE(1, 0, 3, 0, 0, 3, 1, 0, 0xa1000000, 3, 2, 0, 0xa1a20000, 3, 3, 0, 0xa1a2a300, 3, 4, 0, 0xa1a2a3a4, 2, 9);
+    JUDGE(1, 0, 3, 5, 0, 0xa1a2a3a4, 0xa5000000, 3, 6, 0, 0xa1a2a3a4, 0xa5a60000, 3, 7, 0, 0xa1a2a3a4, 0xa5a6a700, 3, 8, 0, 1, 2, 2, 9);
+    JUDGE(1, 0, 3, 1, 0, 0xa1000001, 2, 9);
+    JUDGE(1, 0, 3, 1, 0, 0xa1000100, 2, 9);
+    JUDGE(1, 0, 3, 1, 0, 0xa1010000, 2, 9);
+    JUDGE(1, 0, 3, 2, 0, 0xa1a20001, 2, 9);
+    JUDGE(1, 0, 3, 2, 0, 0xa1a20100, 2, 9);
+    JUDGE(1, 0, 3, 3, 0, 0xa1a2a301, 2, 9);
+    JUDGE(1, 0, 3, 5, 0, 0xa1a2a3a4, 0xa5000001, 2, 9);
+    JUDGE(1, 0, A, 3, 7, 2, 0xa1a2a3a4, 0xa5a6a780, 2, 2, 9);
+    title("device tree: tokens inside a value are no tokens; a value over the rest is 21, and no sum wraps");
+    JUDGE(1, 0, 3, 16, 0, 1, 2, 2, 9, 2, 9);
+    JUDGE(1, 0, 3, 12, 0, 1, 2, 2, 9, 2, 9);
+    JUDGE(1, 0, 3, 24, 0, 1, 2, 2, 9, 2, 9);
+    JUDGE(1, 0, 3, 25, 0, 1, 2, 2, 9, 2, 9);
+    JUDGE(1, 0, 3, 28, 0, 1, 2, 2, 9, 2, 9);
+    JUDGE(1, 0, 3, 0x7fffffff, 0, 2, 9);
+    JUDGE(1, 0, 3, 0x80000000, 0, 2, 9);
+    JUDGE(1, 0, 3, 0xfffffff4, 0, 2, 9);
+    JUDGE(1, 0, 3, 0xfffffff8, 0, 2, 9);
+    JUDGE(1, 0, 3, 0xfffffffc, 0, 2, 9);
+    JUDGE(1, 0, 3, 0xffffffff, 0, 2, 9);
+    JUDGE(1, 0, 3, 0, 0);
+    JUDGE(1, 0, 3, 0);
+    JUDGE(1, 0, 3);
+}
+
+/* Not a call: n nodes inside each other, the root counted, `times` such trees side by side below one root; p in the innermost. */
+static void put_nested(size_t n, size_t times)
+{
+    static const uint32_t p[4] = {P};
+    uint32_t words[256] = {1, 0};
+    size_t at = 2;
+    for (size_t t = 0; t < times; t++) {
+        for (size_t i = 1; i < n; i++) {
+            words[at++] = 1;
+            words[at++] = 0x61000000;
+        }
+        memcpy(words + at, p, sizeof p);
+        at += 4;
+        for (size_t i = 1; i < n; i++)
+            words[at++] = 2;
+    }
+    words[at++] = 2;
+    words[at++] = 9;
+    put_words(words, at);
+}
+
+static void fdt_nesting(void)
+{
+    static const char deep[] = "/a/a/a/a/a/a/a/a/a/a/a/a/a/a/a/a/a";
+    title("device tree: 16 nodes inside each other, the root counted, are accepted, 17 are 21; paths of 14 to 17 names");
+    put_nested(16, 1);
+    fdt_check();
+    for (size_t n = 14; n <= 17; n++)
+        fdt_find_bytes(deep, 2 * n, "p", 1);
+    put_nested(17, 1);
+    fdt_check();
+    fdt_find_bytes(deep, 32, "p", 1);
+    put_nested(15, 1);
+    fdt_check();
+    put_nested(16, 3);
+    fdt_check();
+    fdt_find_bytes(deep, 30, "p", 1);
+    put_nested(18, 1);
+    fdt_check();
+}
+
+/* A tree of 65,600 bytes: two NOPs, the root, 5,457 nodes a without anything, and b with p. */
+static void fdt_flat(void)
+{
+    title("device tree: over 65,536 bytes, of nodes side by side, the one asked for last");
+    len = 65600;
+    memset(area.now, 0xee, SPACE);
+    memcpy(area.now, hand_tree, 40);
+    memset(area.now + 40, 0, 16);
+    write_word(TOTAL, 65600);
+    write_word(STRUCT, 56);
+    write_word(STRINGS, 65592);
+    write_word(STRINGS_SIZE, 2);
+    write_word(STRUCT_SIZE, 65536);
+    write_word(56, 4);
+    write_word(60, 4);
+    write_word(64, 1);
+    write_word(68, 0);
+    for (size_t at = 72; at < 65556; at += 12) {
+        write_word(at, 1);
+        write_word(at + 4, 0x61000000);
+        write_word(at + 8, 2);
+    }
+    write_word(65556, 1);
+    write_word(65560, 0x62000000);
+    write_word(65564, 3);
+    write_word(65568, 4);
+    write_word(65572, 0);
+    write_word(65576, 0x11223344);
+    write_word(65580, 2);
+    write_word(65584, 2);
+    write_word(65588, 9);
+    write_word(65592, 0x7000eeee);
+    printf("by hand: a tree of 65600 bytes, 5457 nodes a and one b with p\n");
+    fdt_check();
+    fdt_find("/b", "p");
+    fdt_find("/a", "p");
+    put_word(65588, 4);
+    fdt_check();
+    fdt_find("/b", "p");
+}
+
+#define X(byte) 3, 1, 0, (uint32_t)(byte) << 24 /* the property p of this byte */
+#define Y(byte) 3, 1, 2, (uint32_t)(byte) << 24 /* the property q of this byte */
+
+static void fdt_paths(void)
+{
+    title("device tree: paths are / or / before each name, none empty; any other finds nothing");
+    JUDGE(1, 0, X(0), A, X(1), B, X(2), 2, 2, 1, 0, X(3), 2, 2, 9);
+    fdt_find("/", "p");
+    fdt_find("/a", "p");
+    fdt_find("/a/b", "p");
+    fdt_find("", "p");
+    fdt_find("a", "p");
+    fdt_find("a/b", "p");
+    fdt_find("//", "p");
+    fdt_find("///", "p");
+    fdt_find("/a/", "p");
+    fdt_find("//a", "p");
+    fdt_find("/a//b", "p");
+    fdt_find("/a/b/", "p");
+    fdt_find("/b", "p");
+    fdt_find("/a/a", "p");
+    fdt_find("/a/b/b", "p");
+    fdt_find("/aa", "p");
+    fdt_find("/A", "p");
+    fdt_find("/.", "p");
+    fdt_find(" /a", "p");
+    title("device tree: a zero byte in a path or a name never matches; the empty name is no property here");
+    fdt_find_bytes("/a\0", 3, "p", 1);
+    fdt_find_bytes("/\0", 2, "p", 1);
+    fdt_find_bytes("\0", 1, "p", 1);
+    fdt_find_bytes("/a\0b", 4, "p", 1);
+    fdt_find_bytes("/a", 2, "p\0", 2);
+    fdt_find_bytes("/a", 2, "\0", 1);
+    fdt_find_bytes("/a", 2, "p\0q", 3);
+    fdt_find("/a", "");
+    fdt_find("", "");
+    title("device tree: full names, with the unit address; no part of one, and none longer");
+    JUDGE(1, 0, 1, 0x67403130, 0, X(1), 2, 1, 0x67000000, X(2), 2, 1, 0x67403100, X(3), 2, 2, 9);
+    fdt_find("/g@10", "p");
+    fdt_find("/g", "p");
+    fdt_find("/g@1", "p");
+    fdt_find("/g@", "p");
+    fdt_find("/g@100", "p");
+    fdt_find("/@10", "p");
+    JUDGE(1, 0, 1, 0x67403130, 0, X(1), 2, 2, 9);
+    fdt_find("/g", "p");
+    fdt_find("/g@10", "p");
+    title("device tree: nodes with an empty or a slashed name, and all below, cannot be reached; one with these names can");
+    JUDGE(1, 0, 1, 0x612f6200, X(1), 2, 1, 0, X(2), A, X(3), 2, 2, 1, 0x2f610000, X(4), 2, 1, 0x622f0000, X(5), A, X(6), 2, 2, 2, 9);
+    fdt_find("/a/b", "p");
+    fdt_find("/", "p");
+    fdt_find("//", "p");
+    fdt_find("/a", "p");
+    fdt_find("//a", "p");
+    fdt_find("/b/", "p");
+    fdt_find("/b//a", "p");
+    fdt_find("/b/a", "p");
+    JUDGE(1, 0, 1, 0x612f6200, X(1), 2, A, X(2), B, X(3), 2, 2, 2, 9);
+    fdt_find("/a/b", "p");
+}
+
+static void fdt_first(void)
+{
+    title("device tree: of equal siblings all are looked into, in block order: of a{p} a{q}, q under /a is the second's");
+    JUDGE(1, 0, A, X(1), 2, A, Y(2), 2, 2, 9);
+    fdt_find("/a", "p");
+    fdt_find("/a", "q");
+    title("device tree: the first of equal siblings that has it; of equal properties the first; behind another node; NOPs between");
+    JUDGE(1, 0, A, 2, B, X(9), 2, 4, A, 4, X(1), X(2), 2, A, X(3), 2, 2, 9);
+    fdt_find("/a", "p");
+    fdt_find("/a", "q");
+    title("device tree: equal siblings on two levels; an earlier one that has the name deeper, or not so deep, does not count");
+    JUDGE(1, 0, A, X(1), B, X(2), 2, 2, A, B, 2, B, Y(3), 2, 2, B, Y(4), A, Y(5), 2, 2, 2, 9);
+    fdt_find("/a/b", "p");
+    fdt_find("/a/b", "q");
+    fdt_find("/b", "q");
+    fdt_find("/b/a", "q");
+    fdt_find("/a", "q");
+    fdt_find("/", "q");
+    title("device tree: block order: what stands deeper in the first sibling comes before the second sibling");
+    JUDGE(1, 0, A, B, A, X(1), 2, 2, 2, A, B, X(2), A, X(3), 2, 2, 2, 2, 9);
+    fdt_find("/a/b/a", "p");
+    fdt_find("/a/b", "p");
+    title("device tree: an empty value answers its offset and size 0, also as the last thing in its node");
+    JUDGE(1, 0, Q, A, Q, 2, 2, 9);
+    fdt_find("/", "q");
+    fdt_find("/a", "q");
+    title("device tree: 21 comes before 13, and is said even if what is asked for stands before the damage");
+    WORDS(1, 0, X(1), A, X(2), 2, X(3), 2, 9);
+    fdt_find("/", "p");
+    fdt_find("/a", "p");
+    fdt_find("", "p");
+    fdt_find("/b", "p");
+}
+
+/* Not a call: a tree that dtc made, from the file; `make ctest` runs in the repository's root. */
+static void put_file(const char *name)
+{
+    FILE *f = fopen(name, "rb");
+    memset(area.now, 0xee, SPACE);
+    len = f == NULL ? 0 : fread(area.now, 1, SPACE, f);
+    if (f != NULL)
+        fclose(f);
+    printf("by hand: %s, %zu bytes\n", name, len);
+}
+
+static void fdt_files(void)
+{
+    static const char nested[] = "/n2/n3/n4/n5/n6/n7/n8/n9/n10/n11/n12/n13/n14/n15/n16";
+    title("device tree: the bench's, which dtc made");
+    put_file("fdt/trees/bench.dtb");
+    fdt_check();
+    fdt_find("/", "model");
+    fdt_find("/", "compatible");
+    fdt_find("/chosen", "bootargs");
+    fdt_find("/memory@80000000", "reg");
+    fdt_find("/gauge@10", "reg");
+    fdt_find("/gauge@10", "limits");
+    fdt_find("/gauge@10", "certified");
+    fdt_find("/gauge@20", "limits");
+    fdt_find("/gauge@20", "certified");
+    fdt_find("/gauge", "reg");
+    fdt_find("gauge0", "reg");
+    fdt_find("/gauge@10/", "reg");
+    len--;
+    fdt_check();
+    fdt_find("/", "model");
+    title("device tree: values of 0 to 8 bytes, which dtc made");
+    put_file("fdt/trees/values.dtb");
+    fdt_check();
+    for (char digit = '0'; digit <= '8'; digit++)
+        fdt_find("/", (const char[]){'v', digit, 0});
+    fdt_find("/a", "only");
+    fdt_find("/ab", "v0");
+    fdt_find("/ab", "v1");
+    fdt_find("/abcd", "v8");
+    fdt_find("/abcde", "v0");
+    title("device tree: 16 nodes inside each other, which dtc made");
+    put_file("fdt/trees/nested.dtb");
+    fdt_check();
+    fdt_find(nested, "level");
+    fdt_find("/", "level");
+    title("device tree: reservations, which dtc made");
+    put_file("fdt/trees/reserved.dtb");
+    fdt_check();
+    fdt_find("/log@80000000", "kept");
+    title("device tree: an overlay applied by fdtoverlay, its padding cleaned by dtc");
+    put_file("fdt/trees/overlaid.dtb");
+    fdt_check();
+    fdt_find("/bus@0", "status");
+    fdt_find("/bus@0/gauge@10", "power");
+    fdt_find("/bus@0/gauge@20", "unit");
+    fdt_find("/bus@0/gauge@20", "spare");
+}
+
 int main(void)
 {
     examples_a_to_h();
@@ -1353,5 +2030,16 @@ int main(void)
     certificate_refusals();
     certificate_versions();
     certificate_adds();
+    fdt_header();
+    fdt_blocks();
+    fdt_reservations();
+    fdt_tokens();
+    fdt_names();
+    fdt_values();
+    fdt_nesting();
+    fdt_flat();
+    fdt_paths();
+    fdt_first();
+    fdt_files();
     return 0;
 }

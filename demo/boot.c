@@ -1,17 +1,19 @@
 /*
  * The boot of a test bench's controller, in four stages, each in its own area at its own address. Each stage checks the list that it is
- * handed, finds what it needs, edits, and relocates the list to the next; the last one signs the valve's test certificate. Run for
- * several valves: one passes, one fails, and the certificate of one is refused. Then again with one bit damaged at a time, where the stage
- * must stop with the refusal's number and never go on with anything older.
+ * handed, finds what it needs, edits, and relocates the list to the next; the second reads the device tree, the last one signs the valve's
+ * test certificate. Run for several valves: one passes, one fails, and the certificate of one is refused; and once with a damaged tree in a
+ * list that is good. Then again with one bit damaged at a time, where the stage must stop with the refusal's number and never go on with
+ * anything older.
  */
 #include <stdio.h>
 #include <string.h>
 
+#include "bench_dtb.h"
 #include "table.h"
 #include "transfer_list.h"
 
-enum { DEVICE_TREE = 1, CALIBRATION = 0xfff001, TICKET = 0xfff002 };
-enum { STAGES = 4, AREA_LEN = 1024, VALVES = 3, NUMBERS = TL_CONTENTS + 1 };
+enum { CALIBRATION = 0xfff001, TICKET = 0xfff002 };
+enum { STAGES = 4, AREA_LEN = 1024, VALVES = 3, NUMBERS = TL_FDT + 1 };
 enum { BAND = 1, CEILING = 2 };
 
 /* What the bench does with a valve: the gate that it is to lift in, and what the gauge counted when it lifted. */
@@ -44,6 +46,7 @@ static size_t length_of(const stage *s) { return AREA_LEN - s->shift; }
 static uint64_t base_of(const stage *s) { return s->base + s->shift; }
 
 static unsigned refusals[NUMBERS], verdicts[2]; /* how often each stopped a stage; how many certificates failed and passed */
+static unsigned gauge_counts_to;                /* the full scale that the supervisor read */
 
 /* Says that a stage stopped, and counts the refusal. Quiet in the damaged runs. */
 static int stopped(const stage *s, uint32_t number, int quiet)
@@ -116,7 +119,6 @@ static void write_certificate(uint8_t to[56], int valve, const uint8_t *calibrat
 /* Stage 1: a new list with the device tree, the gauge's calibration, the last valve's ticket and its certificate. */
 static int loader(stage *s, int valve, int quiet)
 {
-    static const uint8_t device_tree[40] = {0xd0, 0x0d, 0xfe, 0xed, 0, 0, 0, 40};
     static const uint8_t calibration[16] = {0, 0, 0, 0, 0, 0, 0xd0, 0x3f, 0, 0, 0, 0, 0, 0, 0x59, 0xc0}; /* gain 0.25, offset -100 */
     uint8_t certificate[56];
     char ticket[64];
@@ -124,7 +126,7 @@ static int loader(stage *s, int valve, int quiet)
     tl_done d = tl_create(s->area, AREA_LEN, s->base, true);
     if (d.number != 0)
         return stopped(s, d.number, quiet);
-    d = tl_add_aligned(s->area, AREA_LEN, s->base, DEVICE_TREE, device_tree, sizeof device_tree, 6);
+    d = tl_add_aligned(s->area, AREA_LEN, s->base, TL_TAG_FDT, bench_dtb, sizeof bench_dtb, 6);
     if (d.number != 0)
         return stopped(s, d.number, quiet);
     snprintf(ticket, sizeof ticket, "valve %d, relief, bench 2, north field", valve - 1);
@@ -136,12 +138,47 @@ static int loader(stage *s, int valve, int quiet)
     return 1;
 }
 
-/* Stage 2: the old ticket struck out, a shorter one put in its place. */
+static tl_found full_scale(const uint8_t *tree, size_t n)
+{
+    return tl_fdt_find(tree, n, (const uint8_t *)"/gauge@10", 9, (const uint8_t *)"full-scale", 10);
+}
+
+/* Reads the bench's name and its gauge's full scale in the device tree, which the check of the list does not look into. */
+static int read_tree(stage *s, int quiet)
+{
+    tl_found entry = tl_find(list_of(s), length_of(s), base_of(s), TL_TAG_FDT, 0);
+    if (entry.number != 0)
+        return stopped(s, entry.number, quiet);
+    const uint8_t *tree = tl_data(list_of(s), entry);
+    uint32_t number = tl_fdt_check(tree, entry.size);
+    if (number != 0)
+        return stopped(s, number, quiet);
+    tl_found model = tl_fdt_find(tree, entry.size, (const uint8_t *)"/", 1, (const uint8_t *)"model", 5);
+    if (model.number != 0)
+        return stopped(s, model.number, quiet);
+    tl_found scale = full_scale(tree, entry.size);
+    if (scale.number != 0)
+        return stopped(s, scale.number, quiet);
+    if (scale.size != 4) {
+        if (!quiet)
+            printf("  %-10s stops: the full scale has not 4 bytes\n", s->name);
+        return 0;
+    }
+    gauge_counts_to = 0;
+    for (int i = 0; i < 4; i++) /* highest byte first */
+        gauge_counts_to = gauge_counts_to << 8 | tl_data(tree, scale)[i];
+    if (!quiet)
+        printf("  %-10s reads the device tree: %.*s, its gauge counts to %u\n", s->name, (int)model.size, (const char *)tl_data(tree, model),
+               gauge_counts_to);
+    return 1;
+}
+
+/* Stage 2: the old ticket struck out, a shorter one put in its place; the device tree read. */
 static int supervisor(stage *s, int valve, int quiet)
 {
     char ticket[32];
     snprintf(ticket, sizeof ticket, "valve %d", valve);
-    if (!replace(s, TICKET, ticket, strlen(ticket), quiet))
+    if (!replace(s, TICKET, ticket, strlen(ticket), quiet) || !read_tree(s, quiet))
         return 0;
     line(s, "old ticket struck out, shorter one in its place", quiet);
     return 1;
@@ -210,6 +247,22 @@ static int boot(int valve, int at, uint32_t byte, uint8_t mask, int quiet)
     return 1;
 }
 
+/* Hands the supervisor a good list with a damaged tree: one bit of the full scale's length, and the list's checksum put right again. */
+static int damaged_tree(void)
+{
+    stage *s = &stages[1];
+    if (!loader(&stages[0], 1, 1) || !hand_over(&stages[0], s, 1))
+        return 0;
+    uint8_t *list = list_of(s);
+    tl_found entry = tl_find(list, length_of(s), base_of(s), TL_TAG_FDT, 0);
+    tl_found scale = full_scale(list + entry.offset, entry.size);
+    if (entry.number != 0 || scale.number != 0)
+        return 0;
+    list[entry.offset + scale.offset - 8] ^= 0x10; /* length, name and value, in this order */
+    list[4] ^= 0x10;                               /* the checksum is an exclusive or */
+    return tl_check(list, length_of(s), base_of(s)).number == 0 && !supervisor(s, 1, 0) && refusals[TL_FDT] == 1;
+}
+
 /* How many bytes the list that stage `at` is handed has. */
 static uint32_t handed(int at, int valve)
 {
@@ -230,7 +283,9 @@ int main(void)
     }
     printf("its certificate asked for before the bench has put it in, while the list has the last valve's\n");
     signer(&stages[1], VALVES, 0);
-    int right = verdicts[1] == 1 && verdicts[0] == 1 && refusals[TL_CONTENTS] == 1 && refusals[TL_IDENTITY] == 1;
+    printf("one bit of the device tree damaged, in a length, and the list's checksum put right again\n");
+    int right = damaged_tree() && gauge_counts_to == 8000 && verdicts[1] == 1 && verdicts[0] == 1 && refusals[TL_CONTENTS] == 1
+        && refusals[TL_IDENTITY] == 1;
 
     unsigned tried = 0, went_on = 0;
     memset(refusals, 0, sizeof refusals);

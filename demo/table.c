@@ -8,7 +8,8 @@
 static const char *const names[] = {
     "accepted", "AREA",     "SHORT", "SIGNATURE", "VERSION", "READONLY", "SIZES", "CHECKSUM",
     "ENTRY",    "TAG",      "SHAPE", "ALIGN",     "TARGET",  "NONE",     "ROOM",
-    [TL_CERTIFICATE] = "CERTIFICATE", [TL_IDENTITY] = "IDENTITY", [TL_CONTENTS] = "CONTENTS"};
+    [TL_CERTIFICATE] = "CERTIFICATE", [TL_IDENTITY] = "IDENTITY", [TL_CONTENTS] = "CONTENTS",
+    [TL_FDT] = "FDT"};
 
 static const char *const causes[] = {
     "",
@@ -24,11 +25,12 @@ static const char *const causes[] = {
     "this tag may not carry data of this length",
     "the exponent is outside 3 to 12",
     "the target is too long or above 2^48",
-    "no such occurrence of the tag",
+    "no such occurrence of the tag, or no such property",
     "there is no room for it",
     [TL_CERTIFICATE] = "the list has not exactly one test certificate of 56 bytes",
     [TL_IDENTITY] = "the certificate is that of another valve or another test",
     [TL_CONTENTS] = "the certificate's kind, counts, calibration, limits or reading is not allowed",
+    [TL_FDT] = "the device tree breaks a rule of its format, or its nodes are nested too deep",
 };
 
 const char *refusal_name(uint32_t number)
@@ -58,7 +60,7 @@ static const char *tag_name(uint32_t tag)
 {
     switch (tag) {
     case 0: return "void";
-    case 1: return "device tree";
+    case TL_TAG_FDT: return "device tree";
     case 2: return "HOB block";
     case 3: return "HOB list";
     case 4: return "ACPI tables";
@@ -73,13 +75,14 @@ static const char *tag_name(uint32_t tag)
     }
 }
 
-/* The data's first bytes, in hex. */
-static void print_data(const uint8_t *data, uint32_t size)
+/* The data's first bytes, in hex; of a device tree also whether it is accepted. */
+static void print_data(uint32_t tag, const uint8_t *data, uint32_t size)
 {
     uint32_t shown = size < 12 ? size : 12;
     for (uint32_t i = 0; i < shown; i++)
         printf(" %02x", data[i]);
-    printf("%s\n", shown < size ? " .." : "");
+    printf("%s%s\n", shown < size ? " .." : "",
+           tag != TL_TAG_FDT ? "" : tl_fdt_check(data, size) == 0 ? "  tree accepted" : "  tree refused 21");
 }
 
 /* The answer of either edition's check; in both, hdr_size is at 6 and the entries are alike. */
@@ -96,7 +99,7 @@ static uint32_t print_checked(tl_checked c, const uint8_t *area, uint64_t base, 
         uint32_t tag = number_at(area, at, 3), hdr_size = area[at + 3], size = number_at(area, at + 4, 4);
         printf("  %6u  %06x  %-20s  %4u  0x%012llx ", (unsigned)at, (unsigned)tag, tag_name(tag), (unsigned)size,
                (unsigned long long)(base + at + hdr_size));
-        print_data(area + at + hdr_size, size);
+        print_data(tag, area + at + hdr_size, size);
         at += (hdr_size + size + 7) / 8 * 8;
     }
     return 0;

@@ -12,7 +12,7 @@ const char *refusal_cause(uint32_t number);
 /* One line: the number, name and cause. */
 void print_refusal(uint32_t number);
 
-/* The list's header line and a row for each entry, or the refusal. Returns the check's number. */
+/* The list's header line and a row for each entry, or the refusal. Returns the list check's number. */
 uint32_t print_list(const uint8_t *area, size_t len, uint64_t base);
 
 /* The same of a list of edition 0.9, where `used` shows its size of its max_size. */

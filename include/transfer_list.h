@@ -1,6 +1,7 @@
 /*
  * transfer_list.h: transfer lists of the Firmware Handoff specification: check, find, create, add, void, tidy, relocate.
  * Of the test certificate that a list carries: the reading, and pass or fail.
+ * Of the device tree that a list carries: check, and the lookup of a property.
  * Of lists still in its edition 0.9: check, find, convert into a current list.
  *
  * Every function takes any bytes at any stated address, of any size. It ends, reads and writes only the memory that it is lent, and
@@ -40,7 +41,7 @@ extern "C" {
                          /* 0xfff010 not 56 */
 #define TL_ALIGN 11u     /* the exponent is outside 3 to 12 */
 #define TL_TARGET 12u    /* target base + target length exceeds 2^48, or the target length exceeds 65,536 */
-#define TL_NONE 13u      /* no such occurrence of the tag */
+#define TL_NONE 13u      /* no such occurrence of the tag; for tl_fdt_find() no such property */
 #define TL_ROOM 14u      /* there is no room for it */
 
 /* Those of tl_certificate() alone. There is no 15, 16 or 17. */
@@ -49,7 +50,11 @@ extern "C" {
 #define TL_CONTENTS 20u    /* the kind is not 1, 2 or 3, counts exceed 2^24, a float or the reading is infinite or no number, gain is not */
                            /* above zero, an unused limit is not eight zero bytes, or a band's low exceeds its high */
 
-/* The tag of a test certificate. */
+/* That of tl_fdt_check() and tl_fdt_find() alone. */
+#define TL_FDT 21u /* the data is no flattened device tree by the rules at tl_fdt_check() */
+
+/* The tag of a device tree, and of a test certificate. */
+#define TL_TAG_FDT 1u
 #define TL_TAG_CERTIFICATE 0xfff010u
 
 /* What a check answers. */
@@ -66,7 +71,7 @@ typedef struct {
 /* What a find answers. */
 typedef struct {
     uint32_t number; /* 0, or the number of the refusal */
-    uint32_t offset; /* where the data starts, counted from the start of the area */
+    uint32_t offset; /* where the data starts, counted from the start of the area; of tl_fdt_find(), where the value starts in the tree */
     uint32_t size;   /* how many bytes of data, without padding */
 } tl_found;
 
@@ -118,13 +123,14 @@ tl_found tl_find(const uint8_t *area, size_t len, uint64_t base, uint32_t tag, u
 
 /**
  * tl_data - the data that a find found
- * @area: the area that was given to tl_find() or tl09_find()
+ * @area: the area that was given to tl_find() or tl09_find(), or the data that was given to tl_fdt_find()
  * @found: its answer
  *
- * tl_data() gives a pointer to the data itself, inside the area and not a copy, of which found.size bytes are the entry's. Of a refused
- * find it gives the start of the area, with found.size 0. It is a small inline helper and not proved: it believes found, which must be
- * what tl_find() or tl09_find() answered for these very bytes. The proved forms that hand back the part itself are the Rattle functions
- * tl_find_data and tl09_find_data in crates/transfer_list; a function that returns a slice cannot be exported to C.
+ * tl_data() gives a pointer to the data itself, inside the area and not a copy, of which found.size bytes are the entry's or the value's. Of
+ * a refused find it gives the start of the area, with found.size 0. It is a small inline helper and not proved: it believes found, which
+ * must be what tl_find(), tl09_find() or tl_fdt_find() answered for these very bytes. The proved forms that hand back the part itself are
+ * the Rattle functions tl_find_data, tl09_find_data and tl_fdt_find_data in crates/transfer_list; a function that returns a slice cannot
+ * be exported to C.
  *
  * returns:
  *	a pointer to found.size bytes
@@ -300,6 +306,59 @@ tl_done tl_relocate(const uint8_t *area, size_t len, uint64_t base, uint8_t *tar
  *	of these, the least number whose cause is there
  */
 tl_certified tl_certificate(const uint8_t *area, size_t len, uint64_t base, uint64_t serial, uint64_t test);
+
+/**
+ * tl_fdt_check - check a flattened device tree
+ * @data: the bytes of the tree, as they are the data of an entry with tag TL_TAG_FDT
+ * @len: the number of bytes
+ *
+ * tl_fdt_check() checks the data by the Devicetree Specification's flattened format, version 17, last compatible 16. It takes the data alone:
+ * no list, no address, and any length. Numbers are big-endian. Accepted is exactly what keeps these rules:
+ *	the magic number is 0xd00dfeed, version is 17, last_comp_version 16; boot_cpuid_phys is not judged
+ *	the blocks stand in the order header (40 bytes), reservation, structure, strings, without overlap, within totalsize, and totalsize
+ *	is at most len; there may be any bytes between them, behind the strings and behind totalsize
+ *	off_mem_rsvmap is a multiple of 8; off_dt_struct and size_dt_struct are multiples of 4
+ *	the reservation block ends with its first pair of 16 zero bytes, at or before off_dt_struct
+ *	the structure is one root node with an empty name and then FDT_END, which ends it exactly; a node's properties come before its
+ *	subnodes; FDT_NOP may stand before any token
+ *	a property's length, name offset, value and padding lie in the structure, whatever the length says; there are no other tokens
+ *	names end in a zero byte, a node's in the structure, a property's in the strings block; which letters they have, and how many, is not
+ *	judged, nor is a name that is there twice
+ *	padding to 4 behind a node's name and a value is zero
+ *	at most 16 nodes stand inside each other, the root counted
+ *
+ * Trees that libfdt edited in place (fdtput, fdtoverlay, QEMU's dumps of its virt machine) often keep old bytes in padding, and are refused.
+ * A pass through dtc (dtc -I dtb -O dtb) writes clean padding.
+ *
+ * The stack that the call takes is bounded: it does not grow with the data, and with nesting only up to those 16.
+ *
+ * returns:
+ *	0
+ *	TL_FDT, a rule above is broken
+ */
+uint32_t tl_fdt_check(const uint8_t *data, size_t len);
+
+/**
+ * tl_fdt_find - find a property of a flattened device tree
+ * @data: the bytes of the tree
+ * @len: the number of bytes
+ * @path: the node's path: "/" for the root, else "/" before each full name from below the root on, unit addresses included
+ * @path_len: the number of bytes of the path, without any zero byte behind it
+ * @name: the property's name
+ * @name_len: the number of bytes of the name, without any zero byte behind it
+ *
+ * tl_fdt_find() checks the tree as tl_fdt_check() does, and then looks for the first property in block order that has this name and stands
+ * under exactly these node names. Bytes are compared. Where nodes side by side have the same name, all of them are looked into. A path is
+ * cut at every slash, so a node whose name is empty or has a slash, and all below it, cannot be reached. An empty property name can be
+ * asked for. A path or a name with a zero byte in it finds nothing, nor does a path of 16 names or more. tl_data() makes a pointer of the
+ * answer, with data in the area's place. The stack that the call takes is bounded as that of tl_fdt_check() is.
+ *
+ * returns:
+ *	number 0, and the offset and size of the value, counted from the start of data; size 0 for an empty value
+ *	TL_FDT, as tl_fdt_check()
+ *	TL_NONE, there is no such property; so for any path that is neither "/" nor "/" before each of one or more names, none empty
+ */
+tl_found tl_fdt_find(const uint8_t *data, size_t len, const uint8_t *path, size_t path_len, const uint8_t *name, size_t name_len);
 
 /*
  * Edition 0.9 of the specification, which some stages still hand their lists over in. Its header has 16 bytes: the signature 0x006ed0ff,

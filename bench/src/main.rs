@@ -1,5 +1,8 @@
-//! Times the library beside plain Rust in one run, both fully optimised: `make bench`.
+//! Times the library beside plain Rust in one run, both fully optimised, and its device trees beside libfdt too: `make bench`.
+mod fdt;
 mod plain;
+mod plain_fdt;
+mod trees;
 mod xor;
 
 use plain::{Certified, Checked, Done, Found};
@@ -139,8 +142,12 @@ fn time(calls: usize, call: &mut impl FnMut()) -> f64 {
     start.elapsed().as_nanos() as f64 / calls as f64
 }
 
-fn report(what: &str, (library, plain): (f64, f64)) {
-    println!("{what:<52} library {library:>8.1} ns  plain Rust {plain:>8.1} ns  ratio {:.2}", library / plain);
+fn report(what: &str, times: (f64, f64)) {
+    report_beside("plain Rust", what, times);
+}
+
+fn report_beside(beside: &str, what: &str, (library, other): (f64, f64)) {
+    println!("{what:<52} library {library:>9.1} ns  {beside:<10} {other:>9.1} ns  ratio {:.2}", library / other);
 }
 
 /// How many calls a round has: fewer where the list is long.
@@ -155,18 +162,28 @@ fn calls(area: &[u8]) -> usize {
 
 /// Times a call that only reads.
 fn time_reading<T: PartialEq + std::fmt::Debug>(what: &str, area: &[u8], library: impl Fn(&[u8]) -> T, plain: impl Fn(&[u8]) -> T) {
-    assert_eq!(library(area), plain(area), "{what}");
-    let times = least(
+    report(what, times_reading(what, area, calls(area), library, plain));
+}
+
+/// The times of a call that only reads, in rounds of so many calls.
+fn times_reading<T: PartialEq + std::fmt::Debug>(
+    what: &str,
+    bytes: &[u8],
+    calls: usize,
+    library: impl Fn(&[u8]) -> T,
+    other: impl Fn(&[u8]) -> T,
+) -> (f64, f64) {
+    assert_eq!(library(bytes), other(bytes), "{what}");
+    least(
         200,
-        calls(area),
+        calls,
         || {
-            black_box(library(black_box(area)));
+            black_box(library(black_box(bytes)));
         },
         || {
-            black_box(plain(black_box(area)));
+            black_box(other(black_box(bytes)));
         },
-    );
-    report(what, times);
+    )
 }
 
 fn time_check(what: &str, area: &[u8]) {
@@ -290,4 +307,5 @@ fn main() {
     assert_eq!(library_check09(&old).number, 0);
     time_reading("edition 0.9: check, 65,536 bytes, one entry", &old, library_check09, |a| plain::check09(a, BASE, false));
     time_convert09("edition 0.9: convert, 65,000 bytes, one entry", &list09([(1, 65000 - 24)]));
+    fdt::rows();
 }

@@ -4,6 +4,9 @@
 use crate::lent::{Guards, Lent};
 use crate::library;
 use oracle::add_lengths::AddLengths;
+use oracle::fdt_breaks::Breaks;
+use oracle::fdt_found::Finds;
+use oracle::fdt_sights;
 use oracle::lists::List;
 use oracle::lists_certificate;
 use oracle::model::{self, Answer, Edition};
@@ -39,6 +42,9 @@ pub struct Bench {
     pub added_certificates: AddLengths,
     pub runs: Runs,
     pub sights: Sights,
+    pub fdt_sights: fdt_sights::Sights,
+    pub fdt_breaks: Breaks,
+    pub fdt_finds: Finds,
     pub guards: Guards,
 }
 
@@ -64,6 +70,9 @@ impl Bench {
             added_certificates: AddLengths::of_certificates(),
             runs: Runs::default(),
             sights: Sights::default(),
+            fdt_sights: fdt_sights::Sights::default(),
+            fdt_breaks: Breaks::default(),
+            fdt_finds: Finds::default(),
             guards: Guards::new(seed),
         }
     }

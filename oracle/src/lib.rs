@@ -1,6 +1,6 @@
-//! The second implementation of document 01 and of document 02, requests 1 to 3 and 5: the model of their
-//! jobs, the lists it is tried on, and what is demanded of a result said once more. Nothing here needs
-//! the library under test.
+//! The second implementation of document 01 and of document 02, requests 1 to 3, 5 and 6: the model of
+//! their jobs, the lists and device trees it is tried on, and what is demanded of a result said once more.
+//! Nothing here needs the library under test.
 
 pub mod add_lengths;
 pub mod causes;
@@ -11,14 +11,29 @@ pub mod damage;
 pub mod demand;
 pub mod demand09;
 pub mod demand_certificate;
+pub mod demand_fdt;
 pub mod demand_tidy;
 pub mod exact;
+pub mod fdt_asked;
+pub mod fdt_breaks;
+pub mod fdt_breaks_blocks;
+pub mod fdt_breaks_names;
+pub mod fdt_breaks_reservation;
+pub mod fdt_breaks_tokens;
+pub mod fdt_damage;
+pub mod fdt_found;
+pub mod fdt_listing;
+pub mod fdt_rules;
+pub mod fdt_sights;
+pub mod fdt_tree;
+pub mod fdt_trees;
 pub mod lists;
 pub mod lists09;
 pub mod lists_certificate;
 pub mod model;
 pub mod model09;
 pub mod model_certificate;
+pub mod model_fdt;
 pub mod model_tidy;
 pub mod params;
 pub mod rng;
@@ -34,5 +49,11 @@ mod examples09;
 mod examples_certificate;
 #[cfg(test)]
 mod examples_event_log;
+#[cfg(test)]
+mod examples_fdt;
+#[cfg(test)]
+mod examples_fdt_rows;
+#[cfg(test)]
+mod examples_fdt_structure;
 #[cfg(test)]
 mod examples_tidy;

@@ -21,14 +21,17 @@ extern "C" {
                    target: *mut u8, target_len: usize, target_base: u64) -> Done;
     fn tl_tidy(area: *mut u8, len: usize, base: u64) -> Done;
     fn tl_certificate(area: *const u8, len: usize, base: u64, serial: u64, test: u64) -> Certified;
+    fn tl_fdt_check(data: *const u8, len: usize) -> u32;
+    fn tl_fdt_find(data: *const u8, len: usize, path: *const u8, path_len: usize,
+                   name: *const u8, name_len: usize) -> Found;
     fn tl09_check(area: *const u8, len: usize, base: u64) -> Checked;
     fn tl09_find(area: *const u8, len: usize, base: u64, tag: u32, n: u64) -> Found;
     fn tl09_convert(area: *const u8, len: usize, base: u64,
                     target: *mut u8, target_len: usize, target_base: u64) -> Done;
 }
 
-// SAFETY of every call below: a Lent owns the bytes behind its pointer, its length is theirs, and
-// two buffers of one call are two borrowed Lents, which share no byte.
+// SAFETY of every call below: a Lent owns the bytes behind its pointer, its length is theirs, and the
+// buffers of one call are as many borrowed Lents, which share no byte.
 
 pub fn check(area: &mut Lent, base: u64) -> Checked {
     watch::call(Call::Check);
@@ -73,6 +76,20 @@ pub fn tidy(area: &mut Lent, base: u64) -> Done {
 pub fn certificate(area: &mut Lent, base: u64, serial: u64, test: u64) -> Certified {
     watch::call(Call::Certificate);
     unsafe { tl_certificate(area.pointer(), area.len(), base, serial, test) }
+}
+
+pub fn fdt_check(data: &mut Lent) -> u32 {
+    watch::lend([data.bytes(), &[], &[]]);
+    watch::call(Call::FdtCheck);
+    unsafe { tl_fdt_check(data.pointer(), data.len()) }
+}
+
+pub fn fdt_find(data: &mut Lent, path: &mut Lent, name: &mut Lent) -> Found {
+    watch::lend([data.bytes(), path.bytes(), name.bytes()]);
+    watch::call(Call::FdtFind);
+    let (path_len, name_len) = (path.len(), name.len());
+    let (path, name) = (path.pointer(), name.pointer());
+    unsafe { tl_fdt_find(data.pointer(), data.len(), path, path_len, name, name_len) }
 }
 
 pub fn check09(area: &mut Lent, base: u64) -> Checked {

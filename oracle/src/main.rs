@@ -1,21 +1,27 @@
-//! Compares libtransfer_list.a with the model of document 01 and of document 02, requests 1 to 3 and 5,
-//! on many lists.
+//! Compares libtransfer_list.a with the model of document 01 and of document 02, requests 1 to 3, 5 and 6,
+//! on many lists and device trees.
 //!
 //! `oracle [LISTS [SEED]]`; the list after that of seed S is the one of seed S + 1.
 
 mod calls09;
+mod calls_fdt;
 mod certificates;
 mod compare;
 mod edges09;
 mod edges_added_certificate;
 mod edges_certificate;
 mod edges_event_log;
+mod edges_fdt;
+mod edges_fdt_large;
+mod edges_fdt_paths;
+mod edges_fdt_small;
 mod edges_reading;
 mod edges_tidy;
 mod edges_words;
 mod edits;
 mod huge;
 mod huge09;
+mod huge_fdt;
 mod lent;
 mod library;
 mod relocations;
@@ -25,6 +31,7 @@ mod watch;
 use compare::Bench;
 use oracle::lists;
 use oracle::rng::Rng;
+use oracle::tally::Call;
 use std::env;
 use std::process::ExitCode;
 
@@ -75,14 +82,19 @@ fn run(lists: u64, seed: u64) -> Result<(), String> {
     bench.edges_reading(seed)?;
     bench.huge_lengths()?;
     bench.huge_lengths09()?;
+    bench.device_trees(seed)?;
     println!("{}\n{}", bench.tally.table(), bench.event_logs.table());
     println!("{}\n{}\n{}", bench.added_certificates.table(), runs.table(), bench.sights.table());
+    println!("{}\n{}\n{}", bench.fdt_sights.table(), bench.fdt_finds.table(), bench.fdt_breaks.table());
     let adds = [bench.event_logs.unseen(), bench.added_certificates.unseen()].concat();
-    let unseen = [bench.tally.unseen(), adds, runs.unseen(), bench.sights.unseen()].concat();
+    let trees = [bench.fdt_sights.unseen(), bench.fdt_finds.unseen(), bench.fdt_breaks.unseen()].concat();
+    let unseen = [bench.tally.unseen(), adds, runs.unseen(), bench.sights.unseen(), trees].concat();
     if !unseen.is_empty() {
         return Err(unseen.join("\n"));
     }
     println!("{} certificates judged", bench.sights.judged());
+    let (trees, accepted) = bench.tally.made(Call::FdtCheck);
+    println!("{trees} device trees checked, {accepted} of them accepted");
     println!("{lists} lists, {} calls, no difference", bench.tally.calls());
     Ok(())
 }

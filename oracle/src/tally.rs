@@ -3,8 +3,8 @@
 use std::fmt::Write;
 
 /// The numbers of refusals that some call can answer, and 0.
-const NUMBERS: [u32; 18] = [0, 1, 2, 3, 4, 5, 6, 7, 8, 9, 10, 11, 12, 13, 14, 18, 19, 20];
-const CALLS: usize = 12;
+const NUMBERS: [u32; 19] = [0, 1, 2, 3, 4, 5, 6, 7, 8, 9, 10, 11, 12, 13, 14, 18, 19, 20, 21];
+const CALLS: usize = 14;
 
 #[derive(Clone, Copy, PartialEq, Eq)]
 pub enum Call {
@@ -17,6 +17,8 @@ pub enum Call {
     Relocate,
     Tidy,
     Certificate,
+    FdtCheck,
+    FdtFind,
     Check09,
     Find09,
     Convert09,
@@ -33,6 +35,8 @@ impl Call {
         Call::Relocate,
         Call::Tidy,
         Call::Certificate,
+        Call::FdtCheck,
+        Call::FdtFind,
         Call::Check09,
         Call::Find09,
         Call::Convert09,
@@ -50,6 +54,8 @@ impl Call {
             Call::Relocate => "tl_relocate",
             Call::Tidy => "tl_tidy",
             Call::Certificate => "tl_certificate",
+            Call::FdtCheck => "tl_fdt_check",
+            Call::FdtFind => "tl_fdt_find",
             Call::Check09 => "tl09_check",
             Call::Find09 => "tl09_find",
             Call::Convert09 => "tl09_convert",
@@ -57,7 +63,7 @@ impl Call {
     }
 
     /// The numbers the call can answer: those of "When a call is turned away" that concern it, and those of
-    /// document 02, request 5.
+    /// document 02, requests 5 and 6.
     fn possible(self) -> &'static [u32] {
         match self {
             Call::Check | Call::Check09 => &[0, 1, 2, 3, 4, 6, 7, 8],
@@ -68,6 +74,8 @@ impl Call {
             Call::Void => &[0, 1, 2, 3, 4, 5, 6, 7, 8, 9, 13],
             Call::Tidy => &[0, 1, 2, 3, 4, 5, 6, 7, 8],
             Call::Certificate => &[0, 1, 2, 3, 4, 6, 7, 8, 18, 19, 20],
+            Call::FdtCheck => &[0, 21],
+            Call::FdtFind => &[0, 13, 21],
             Call::Relocate | Call::Convert09 => &[0, 1, 2, 3, 4, 5, 6, 7, 8, 12, 14],
         }
     }
@@ -80,6 +88,12 @@ impl Tally {
     pub fn count(&mut self, call: Call, number: u32) {
         let column = NUMBERS.iter().position(|known| *known == number);
         self.0[call as usize][column.expect("a number that some call can answer")] += 1;
+    }
+
+    /// How often a call was made, and how often it was accepted.
+    pub fn made(&self, call: Call) -> (u64, u64) {
+        let seen = self.0[call as usize];
+        (seen.iter().sum(), seen[0])
     }
 
     pub fn calls(&self) -> u64 {

@@ -7,6 +7,7 @@ use oracle::rng::Rng;
 use oracle::tally::Call;
 use std::process::exit;
 use std::sync::atomic::{AtomicU64, AtomicUsize, Ordering::Relaxed};
+use std::sync::Mutex;
 use std::thread;
 use std::time::Duration;
 
@@ -16,6 +17,10 @@ const PATIENCE: Duration = Duration::from_secs(20);
 static CALLS: AtomicU64 = AtomicU64::new(0);
 static CALL: AtomicUsize = AtomicUsize::new(0);
 static SEED: AtomicU64 = AtomicU64::new(0);
+/// What was lent last to a call for device trees.
+static LENT: Mutex<[Vec<u8>; 3]> = Mutex::new([Vec::new(), Vec::new(), Vec::new()]);
+/// No more than these bytes of a buffer are kept.
+const KEPT: usize = 1 << 16;
 
 /// Notes that the list of `seed` has its turn.
 pub fn list(seed: u64) {
@@ -26,6 +31,15 @@ pub fn list(seed: u64) {
 pub fn call(call: Call) {
     CALL.store(call as usize, Relaxed);
     CALLS.fetch_add(1, Relaxed);
+}
+
+/// Notes the data, the path and the name that are about to be lent.
+pub fn lend(buffers: [&[u8]; 3]) {
+    let mut lent = LENT.lock().unwrap();
+    for (kept, bytes) in lent.iter_mut().zip(buffers) {
+        kept.clear();
+        kept.extend_from_slice(&bytes[..bytes.len().min(KEPT)]);
+    }
 }
 
 /// Starts the second thread.
@@ -44,9 +58,16 @@ pub fn start() {
 }
 
 fn give_up() -> ! {
+    let call = Call::ALL[CALL.load(Relaxed)];
+    if matches!(call, Call::FdtCheck | Call::FdtFind) {
+        let [data, path, name] = &*LENT.lock().unwrap();
+        println!("{} does not return", call.name());
+        println!("  data {}\n  path {}\n  name {}", hex(data), hex(path), hex(name));
+        exit(1);
+    }
     let seed = SEED.load(Relaxed);
     let list = lists::any(&mut Rng::new(seed));
-    println!("{} does not return; the last list:", Call::ALL[CALL.load(Relaxed)].name());
+    println!("{} does not return; the last list:", call.name());
     println!("  base {:#x}\n  area {}\n{}", list.base, hex(&list.area), again(seed));
     exit(1);
 }

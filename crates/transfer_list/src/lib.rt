@@ -1,10 +1,12 @@
 // The functions that are shipped: for C, and find's second forms for Rattle. Each is thin and has the whole statement: no requires, an
 // equation for the answer and one for each buffer that is lent for writing. What an edit is promised to do is one record, `Promised`:
 // its answer is that of the written rules, so is every lent byte afterwards, and where the number is 0 all of demand 3 holds. What a
-// conversion is promised to do is `ConvertPromised`, likewise, with what holds of a converted list.
+// conversion is promised to do is `ConvertPromised`, likewise, with what holds of a converted list. The rules of the device tree's
+// functions are relations, each of which settles the answer: `checked-only`, `lookup-only`, `part-only`.
 use certificate::certify;
 use convert::convert;
 use create::create;
+use devicetree::tree;
 use edit::edits;
 use relocate::relocate;
 use rules::CheckAnswer;
@@ -25,6 +27,8 @@ ghost use Rattle.rules.specs.Edit.{toAdd, toAddAligned, toVoid, toRelocate, toT
 ghost use Rattle.rules.specs.Demand3.{Promised};
 ghost use Rattle.rules.specs.Edition09.{check09, find09, findData09, ConvertPromised};
 ghost use Rattle.rules.specs.Certificate.{certify as certifyRule, certifiedAnswer};
+ghost use Rattle.devicetree.specs.Tree.{Checked as FdtChecked};
+ghost use Rattle.lookup.specs.Lookup.{Lookup, LookupPart};
 
 // Checks the list in area, which stands at base.
 #[no_mangle]
@@ -162,4 +166,28 @@ pub extern "C" fn tl_certificate(area: &[u8], base: u64, serial: u64, test: u64)
     ensures { λ r. ⌜ r ≡ certifiedAnswer (certifyRule (now (area .entry)) base serial test) ⌝ }
 {
     certify::certify(area, base, serial, test).numbers()
+}
+
+// Checks a flattened device tree, which it takes alone. Answers 0, or 21.
+#[no_mangle]
+pub extern "C" fn tl_fdt_check(data: &[u8]) -> u32
+    ensures { λ r. ⌜ FdtChecked (now («data» .entry)) r ⌝ }
+{
+    tree::check(data)
+}
+
+// Finds the value of a property of a flattened device tree, by its node's path and its name.
+#[no_mangle]
+pub extern "C" fn tl_fdt_find(data: &[u8], path: &[u8], name: &[u8]) -> FindAnswer
+    ensures { λ r. ⌜ Lookup (now («data» .entry)) (now (path .entry)) (now (name .entry)) r ⌝ }
+{
+    lookup::find::find(data, path, name)
+}
+
+// The value itself, as a part of the caller's data; the empty part at its start where the lookup refuses.
+pub fn tl_fdt_find_data<'a>(data: &'a [u8], path: &[u8], name: &[u8]) -> &'a [u8]
+    ensures { λ r. ⌜ r .ptr .0 ≡ «data» .entry .ptr .0 ⌝ }
+    ensures { λ r. ⌜ LookupPart (now («data» .entry)) (now (path .entry)) (now (name .entry)) («data» .entry .ptr .1) (now r) (r .ptr .1) ⌝ }
+{
+    lookup::find::find_data(data, path, name)
 }

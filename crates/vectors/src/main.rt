@@ -1,5 +1,6 @@
-// Runs the paper's examples A to N, and examples of edition 0.9, of the event log's length, of tidying, of the checksum's exclusive or and
-// of the test certificate, on real bytes and prints what the functions answer and leave; the file stdout holds what the papers' rules give.
+// Runs the paper's examples A to N, and examples of edition 0.9, of the event log's length, of tidying, of the checksum's exclusive or, of
+// the test certificate and of the device tree, on real bytes and prints what the functions answer and leave; the file stdout holds what the
+// papers' rules give.
 // A line: the example, the call, the answer's numbers, of a reading its 64 bits, and the bytes: of a find the data, of create, an edit and
 // a certificate the whole area or target, of two large areas the first 24 bytes; of the exclusive or the start, and the results over 0, 1,
 // 2 .. bytes from there.
@@ -699,6 +700,235 @@ fn certificate_at_odd_address() {
     show_certificate(b"at an odd address", &area, SERIAL, TEST);
 }
 
+// A number's bytes, the greatest first.
+fn put_big_endian(d: &mut [u8], at: usize, n: u32) {
+    let low = n % 65536;
+    let high = n / 65536;
+    put4(
+        d,
+        at,
+        high / 256 + high % 256 * 256 + low / 256 * 65536 + low % 256 * 0x100_0000,
+    );
+}
+
+// Bytes from at on, if there is room.
+fn put_part(d: &mut [u8], at: usize, part: &[u8]) {
+    if part.len() <= d.len() {
+        if at <= d.len() - part.len() {
+            wire::copy_part(d, at, part);
+        }
+    }
+}
+
+// A device tree's header, in two halves: a reservation block of one zero pair, a structure and strings, each right behind the one before.
+fn put_fdt_offsets(d: &mut [u8], size: u32, strings_size: u32) {
+    put_big_endian(d, 0, 0xd00d_feed);
+    put_big_endian(d, 4, 56 + size % 65536 + strings_size % 65536);
+    put_big_endian(d, 8, 56);
+    put_big_endian(d, 12, 56 + size % 65536);
+    put_big_endian(d, 16, 40);
+}
+
+fn put_fdt_sizes(d: &mut [u8], size: u32, strings_size: u32) {
+    put_big_endian(d, 20, 17);
+    put_big_endian(d, 24, 16);
+    put_big_endian(d, 32, strings_size);
+    put_big_endian(d, 36, size);
+}
+
+// The whole tree.
+fn put_fdt(d: &mut [u8], structure: &[u8], strings: &[u8]) {
+    let size = structure.len() % 65536;
+    let strings_size = strings.len() % 65536;
+    put_fdt_offsets(d, size as u32, strings_size as u32);
+    put_fdt_sizes(d, size as u32, strings_size as u32);
+    put_part(d, 56, structure);
+    put_part(d, 56 + size, strings);
+}
+
+// The sample: a root with model, a NOP, and two nodes a, the first with x, a byte, the second with y, which has no bytes.
+fn put_sample(d: &mut [u8]) {
+    put_fdt(
+        d,
+        b"\0\0\0\x01\0\0\0\0\0\0\0\x03\0\0\0\x04\0\0\0\0v900\0\0\0\x04\0\0\0\x01\
+              a\0\0\0\0\0\0\x03\0\0\0\x01\0\0\0\x06Z\0\0\0\0\0\0\x02\0\0\0\x01a\0\0\0\
+              \0\0\0\x03\0\0\0\0\0\0\0\x08\0\0\0\x02\0\0\0\x02\0\0\0\x09",
+        b"model\0x\0y\0",
+    );
+}
+
+fn show_fdt(example: &[u8], d: &[u8]) {
+    io::write_all(1, example);
+    io::write_all(1, b" fdt");
+    number(transfer_list::tl_fdt_check(d));
+    io::write_all(1, b"\n");
+}
+
+// A tree of a structure and strings, with zeros behind it up to 512 bytes.
+fn fdt(example: &[u8], structure: &[u8], strings: &[u8]) {
+    let mut d = [0u8; 512];
+    put_fdt(&mut d, structure, strings);
+    show_fdt(example, &d);
+}
+
+// The sample with a number in place of another.
+fn fdt_with(example: &[u8], at: usize, n: u32) {
+    let mut d = [0u8; 512];
+    put_sample(&mut d);
+    put_big_endian(&mut d, at, n);
+    show_fdt(example, &d);
+}
+
+// A property of the sample: find's numbers, and the value itself.
+fn fdt_find(path: &[u8], name: &[u8]) {
+    let mut d = [0u8; 512];
+    put_sample(&mut d);
+    let found = transfer_list::tl_fdt_find(&d, path, name);
+    io::write_all(1, b"fdt find");
+    number(found.number);
+    number(found.offset);
+    number(found.size);
+    show_bytes(transfer_list::tl_fdt_find_data(&d, path, name));
+    io::write_all(1, b"\n");
+}
+
+// The sample as it is; fields of its header, at their limits or off by one.
+fn fdt_headers() {
+    fdt_with(b"sample", 28, 0);
+    fdt_with(b"boot processor 1", 28, 1);
+    fdt_with(b"other magic", 0, 0xd00dfeee);
+    fdt_with(b"totalsize one less", 4, 0x99);
+    fdt_with(b"totalsize 512", 4, 0x200);
+    fdt_with(b"totalsize 513", 4, 0x201);
+    fdt_with(b"reservations from 32", 16, 0x20);
+    fdt_with(b"reservations from 44", 16, 0x2c);
+    fdt_with(b"reservations not ended", 40, 1);
+    fdt_with(b"version 16", 20, 0x10);
+    fdt_with(b"last compatible 17", 24, 0x11);
+    fdt_with(b"structure size one less", 36, 0x57);
+    fdt_with(b"strings one earlier", 12, 0x8f);
+}
+
+// The first bytes alone.
+fn fdt_lengths() {
+    let mut d = [0u8; 512];
+    put_sample(&mut d);
+    show_fdt(b"first 39", &d[0..39]);
+    show_fdt(b"first 40", &d[0..40]);
+    show_fdt(b"first 153", &d[0..153]);
+    show_fdt(b"first 154", &d[0..154]);
+}
+
+// In the sample: the last name offset and one behind; lengths that would wrap; a token that is none; padding.
+fn fdt_names_and_values() {
+    fdt_with(b"empty name", 100, 9);
+    fdt_with(b"name offset at the end", 100, 0xa);
+    fdt_with(b"length of 2^32 - 1", 96, 0xffffffff);
+    fdt_with(b"length of 2^32 - 12", 96, 0xfffffff4);
+    fdt_with(b"token 5", 80, 5);
+    fdt_with(b"padding of a value", 104, 0x5a000001);
+    fdt_with(b"padding of a name", 88, 0x61000001);
+}
+
+// Whole structures.
+fn fdt_structures() {
+    fdt(
+        b"root alone",
+        b"\0\0\0\x01\0\0\0\0\0\0\0\x02\0\0\0\x09",
+        b"model\0x\0y\0",
+    );
+    fdt(
+        b"NOP everywhere",
+        b"\0\0\0\x04\0\0\0\x01\0\0\0\0\0\0\0\x04\0\0\0\x03\0\0\0\x04\0\0\0\0v900\
+              \0\0\0\x04\0\0\0\x01a\0\0\0\0\0\0\x04\0\0\0\x02\0\0\0\x04\0\0\0\x02\0\0\0\x04\
+              \0\0\0\x09",
+        b"model\0x\0y\0",
+    );
+    fdt(
+        b"named root",
+        b"\0\0\0\x01a\0\0\0\0\0\0\x02\0\0\0\x09",
+        b"model\0x\0y\0",
+    );
+    fdt(b"no root", b"\0\0\0\x09", b"model\0x\0y\0");
+    fdt(b"nothing", b"", b"model\0x\0y\0");
+    fdt(
+        b"second root",
+        b"\0\0\0\x01\0\0\0\0\0\0\0\x02\0\0\0\x01\0\0\0\0\0\0\0\x02\0\0\0\x09",
+        b"model\0x\0y\0",
+    );
+    fdt(
+        b"property at the top",
+        b"\0\0\0\x03\0\0\0\x04\0\0\0\0v900\0\0\0\x01\0\0\0\0\0\0\0\x02\0\0\0\x09",
+        b"model\0x\0y\0",
+    );
+    fdt(
+        b"property behind a subnode",
+        b"\0\0\0\x01\0\0\0\0\0\0\0\x01a\0\0\0\0\0\0\x02\0\0\0\x03\0\0\0\x04\0\0\0\0v900\0\0\0\x02\0\0\0\x09",
+        b"model\0x\0y\0",
+    );
+    fdt(
+        b"END inside",
+        b"\0\0\0\x01\0\0\0\0\0\0\0\x09\0\0\0\x02\0\0\0\x09",
+        b"model\0x\0y\0",
+    );
+    fdt(b"no END", b"\0\0\0\x01\0\0\0\0\0\0\0\x02", b"model\0x\0y\0");
+    fdt(
+        b"behind END",
+        b"\0\0\0\x01\0\0\0\0\0\0\0\x02\0\0\0\x09\0\0\0\x04",
+        b"model\0x\0y\0",
+    );
+    fdt(
+        b"strings empty",
+        b"\0\0\0\x01\0\0\0\0\0\0\0\x02\0\0\0\x09",
+        b"",
+    );
+    fdt(
+        b"strings empty, a property",
+        b"\0\0\0\x01\0\0\0\0\0\0\0\x03\0\0\0\x04\0\0\0\0v900\0\0\0\x02\0\0\0\x09",
+        b"",
+    );
+    fdt(
+        b"16 nodes",
+        b"\0\0\0\x01\0\0\0\0\0\0\0\x01\0\0\0\0\0\0\0\x01\0\0\0\0\0\0\0\x01\0\0\0\0\
+              \0\0\0\x01\0\0\0\0\0\0\0\x01\0\0\0\0\0\0\0\x01\0\0\0\0\0\0\0\x01\0\0\0\0\
+              \0\0\0\x01\0\0\0\0\0\0\0\x01\0\0\0\0\0\0\0\x01\0\0\0\0\0\0\0\x01\0\0\0\0\
+              \0\0\0\x01\0\0\0\0\0\0\0\x01\0\0\0\0\0\0\0\x01\0\0\0\0\0\0\0\x01\0\0\0\0\
+              \0\0\0\x02\0\0\0\x02\0\0\0\x02\0\0\0\x02\0\0\0\x02\0\0\0\x02\0\0\0\x02\0\0\0\x02\
+              \0\0\0\x02\0\0\0\x02\0\0\0\x02\0\0\0\x02\0\0\0\x02\0\0\0\x02\0\0\0\x02\0\0\0\x02\
+              \0\0\0\x09",
+        b"model\0x\0y\0",
+    );
+    fdt(
+        b"17 nodes",
+        b"\0\0\0\x01\0\0\0\0\0\0\0\x01\0\0\0\0\0\0\0\x01\0\0\0\0\0\0\0\x01\0\0\0\0\
+              \0\0\0\x01\0\0\0\0\0\0\0\x01\0\0\0\0\0\0\0\x01\0\0\0\0\0\0\0\x01\0\0\0\0\
+              \0\0\0\x01\0\0\0\0\0\0\0\x01\0\0\0\0\0\0\0\x01\0\0\0\0\0\0\0\x01\0\0\0\0\
+              \0\0\0\x01\0\0\0\0\0\0\0\x01\0\0\0\0\0\0\0\x01\0\0\0\0\0\0\0\x01\0\0\0\0\
+              \0\0\0\x01\0\0\0\0\0\0\0\x02\0\0\0\x02\0\0\0\x02\0\0\0\x02\0\0\0\x02\0\0\0\x02\
+              \0\0\0\x02\0\0\0\x02\0\0\0\x02\0\0\0\x02\0\0\0\x02\0\0\0\x02\0\0\0\x02\0\0\0\x02\
+              \0\0\0\x02\0\0\0\x02\0\0\0\x02\0\0\0\x09",
+        b"model\0x\0y\0",
+    );
+}
+
+// In the sample, whose root has two nodes a: the first has x, the second y.
+fn fdt_finds() {
+    fdt_find(b"/", b"model");
+    fdt_find(b"/a", b"x");
+    fdt_find(b"/a", b"y");
+    fdt_find(b"/", b"x");
+    fdt_find(b"/a", b"model");
+    fdt_find(b"/b", b"x");
+    fdt_find(b"/a", b"");
+    fdt_find(b"", b"model");
+    fdt_find(b"a", b"x");
+    fdt_find(b"//", b"model");
+    fdt_find(b"/a/", b"x");
+    fdt_find(b"/a//a", b"x");
+    fdt_find(b"/a\0", b"x");
+    fdt_find(b"/a", b"x\0");
+}
+
 fn main() {
     examples_a_to_d();
     example_e(b"0123456789abcdefg");
@@ -743,4 +973,9 @@ fn main() {
     certificate_beside_12();
     certificate_of_55();
     certificate_at_odd_address();
+    fdt_headers();
+    fdt_lengths();
+    fdt_names_and_values();
+    fdt_structures();
+    fdt_finds();
 }
