@@ -6,6 +6,7 @@
 # make install   the archive, the header and a pkg-config file under PREFIX (default /usr/local)
 # make ctest     a C program over the header: every answer and byte as stored; the structures' layout
 # make compare   the library beside the independent second program: LISTS=N SEED=S
+# make compare-large  the same on large lists, up to 16 MiB: SEED=S; it is no part of make test, which fills no buffer over 64 KiB
 # make bench     the library beside plain Rust, and its device trees beside libfdt too where that is installed; SHIFT=16, 32 or 48 puts
 #                the library's functions so many bytes behind a line of 64 bytes
 # make fdt-compare  device trees from dtc, damaged, beside libfdt: TREES=N SEED=S; it installs Debian's device-tree-compiler and libfdt-dev
@@ -28,7 +29,7 @@ TIMED = target/staticlib/libtimed.a
 C_FLAGS = -std=c99 $(CFLAGS) -Iinclude
 CARGO = cargo build --quiet --release --offline
 
-.PHONY: run show test lib install ctest compare fdt-compare bench fmt-check header-check symbols-check oracle-test size
+.PHONY: run show test lib install ctest compare compare-large fdt-compare bench fmt-check header-check symbols-check oracle-test size
 
 run: target/demo/paper target/demo/boot target/demo/edition09
 	target/demo/paper
@@ -77,6 +78,10 @@ target/ctest/answers: ctest/answers.c include/transfer_list.h $(LIB)
 compare: $(LIB)
 	$(CARGO) --manifest-path oracle/Cargo.toml --target-dir target/oracle
 	target/oracle/release/oracle $(LISTS) $(SEED)
+
+compare-large: $(LIB)
+	$(CARGO) --manifest-path oracle/Cargo.toml --target-dir target/oracle
+	target/oracle/release/oracle large $(SEED)
 
 # what dtc makes of fdt/sources: the trees that are kept, the remedy for old bytes in padding, and the library beside libfdt
 fdt-compare: target/fdt/look

@@ -2,16 +2,23 @@
  * The paper's examples A to N (it has no L) and every refusal, through the header alone. For each call every field of the answer is
  * printed, how many bytes changed, and the bytes where any did. `make ctest` compares this with answers.expected, which was worked out
  * from the paper and not with this library. The examples of edition 0.9 are our own, since source 000 has none, and so are those of
- * document 02, requests 2, 3, 5 and 6, but for the reading of 900.
+ * document 02, requests 2, 3 and 5 to 7, but for the reading of 900. Examples I and J are as its request 7 amends them.
+ *
+ * At most 65,536 bytes are lent, but for longer areas and targets that are all 0, are refused and stay so. So 65,537 of example I is not
+ * here: it is a row of the proved table, and `make compare-large` has it.
  */
 #include <float.h>
 #include <inttypes.h>
 #include <stdio.h>
+#include <stdlib.h>
 #include <string.h>
 
 #include "transfer_list.h"
 
-#define SPACE 65600u            /* more than is ever lent here */
+#define MOST 65536u             /* the most that is lent here and may be accepted */
+#define SPACE 65600u            /* a little more, so that a write beyond is seen */
+#define LIMIT 16777216u         /* the most that an area or a target may have */
+#define BEHIND 64u              /* bytes behind those, so that a write beyond is seen */
 #define TOP ((uint64_t)1 << 48) /* addresses end here */
 
 /* The first bytes of a buffer are lent to a call. All its bytes are kept as they were before. */
@@ -21,6 +28,7 @@ typedef struct {
 } buffer;
 
 static buffer area = {"area", {0}, {0}}, target = {"target", {0}, {0}};
+static uint8_t *zero_bytes; /* LIMIT + 1 bytes and BEHIND more, all 0, which take no memory as long as none is written */
 static size_t len;    /* how many bytes of the area are lent */
 static uint64_t base; /* where the area is said to stand */
 
@@ -47,9 +55,30 @@ static size_t differences(const uint8_t *a, const uint8_t *b, size_t n)
     return count;
 }
 
+/* What is lent: the first bytes of a buffer; no bytes as NULL; over MOST of them those that are 0. */
+static uint8_t *lend(buffer *b, size_t n)
+{
+    return n == 0 ? NULL : n > MOST ? zero_bytes : b->now;
+}
+
+/* What the call did to the bytes that are 0, beyond those that were lent too, and to the buffer in whose place they were. */
+static void show_zero_bytes(const buffer *b, size_t lent)
+{
+    size_t inside = 0, beyond = differences(b->now, b->before, SPACE);
+    for (size_t i = 0; i < lent; i++)
+        inside += zero_bytes[i] != 0;
+    for (size_t i = lent; i < LIMIT + 1 + BEHIND; i++)
+        beyond += zero_bytes[i] != 0;
+    printf("  %s: %zu of %zu bytes changed, %zu beyond them\n", b->name, inside, lent, beyond);
+}
+
 /* What the call did to a buffer. Of a big one only the header is shown, and a count. */
 static void show_buffer(const buffer *b, size_t lent)
 {
+    if (lent > MOST) {
+        show_zero_bytes(b, lent);
+        return;
+    }
     size_t inside = differences(b->now, b->before, lent);
     size_t beyond = differences(b->now + lent, b->before + lent, SPACE - lent);
     printf("  %s: %zu of %zu bytes changed, %zu beyond them\n", b->name, inside, lent, beyond);
@@ -96,19 +125,18 @@ static void keep(void)
     memcpy(target.before, target.now, SPACE);
 }
 
-/* An area without bytes is lent as NULL, and so are data without bytes. */
 static void check(void)
 {
     printf("tl_check: %zu bytes at 0x%" PRIx64 "\n", len, base);
     keep();
-    show_checked(tl_check(len == 0 ? NULL : area.now, len, base));
+    show_checked(tl_check(lend(&area, len), len, base));
 }
 
 static void find(uint32_t tag, uint64_t n)
 {
     printf("tl_find: tag 0x%" PRIx32 ", occurrence %" PRIu64 "\n", tag, n);
     keep();
-    show_found(tl_find(area.now, len, base, tag, n));
+    show_found(tl_find(lend(&area, len), len, base, tag, n));
 }
 
 /* The area is full of ee before, so that every byte written is seen; so is the target of a relocation or conversion. */
@@ -119,35 +147,36 @@ static void create(size_t new_len, uint64_t new_base, bool has_checksum)
     memset(area.now, 0xee, SPACE);
     printf("tl_create: %zu bytes at 0x%" PRIx64 ", checksum %s\n", len, base, has_checksum ? "yes" : "no");
     keep();
-    show_done(tl_create(area.now, len, base, has_checksum));
+    show_done(tl_create(lend(&area, len), len, base, has_checksum));
 }
 
+/* Data without bytes are lent as NULL. */
 static void add(uint32_t tag, size_t n, bool use_voids)
 {
     printf("tl_add: tag 0x%" PRIx32 ", %zu bytes, voids %s\n", tag, n, use_voids ? "yes" : "no");
     keep();
-    show_done(tl_add(area.now, len, base, tag, n == 0 ? NULL : source, n, use_voids));
+    show_done(tl_add(lend(&area, len), len, base, tag, n == 0 ? NULL : source, n, use_voids));
 }
 
 static void add_aligned(uint32_t tag, size_t n, uint32_t exponent)
 {
     printf("tl_add_aligned: tag 0x%" PRIx32 ", %zu bytes, exponent %" PRIu32 "\n", tag, n, exponent);
     keep();
-    show_done(tl_add_aligned(area.now, len, base, tag, n == 0 ? NULL : source, n, exponent));
+    show_done(tl_add_aligned(lend(&area, len), len, base, tag, n == 0 ? NULL : source, n, exponent));
 }
 
 static void strike(uint32_t tag, uint64_t n)
 {
     printf("tl_void: tag 0x%" PRIx32 ", occurrence %" PRIu64 "\n", tag, n);
     keep();
-    show_done(tl_void(area.now, len, base, tag, n));
+    show_done(tl_void(lend(&area, len), len, base, tag, n));
 }
 
 static void tidy(void)
 {
     printf("tl_tidy: %zu bytes at 0x%" PRIx64 "\n", len, base);
     keep();
-    show_done(tl_tidy(len == 0 ? NULL : area.now, len, base));
+    show_done(tl_tidy(lend(&area, len), len, base));
 }
 
 static void relocate(size_t target_len, uint64_t target_base)
@@ -155,7 +184,7 @@ static void relocate(size_t target_len, uint64_t target_base)
     memset(target.now, 0xee, SPACE);
     printf("tl_relocate: target of %zu bytes at 0x%" PRIx64 "\n", target_len, target_base);
     keep();
-    show_done(tl_relocate(area.now, len, base, target.now, target_len, target_base));
+    show_done(tl_relocate(lend(&area, len), len, base, lend(&target, target_len), target_len, target_base));
     show_buffer(&target, target_len);
 }
 
@@ -163,30 +192,29 @@ static void certificate(uint64_t serial, uint64_t test)
 {
     printf("tl_certificate: %zu bytes at 0x%" PRIx64 ", serial 0x%" PRIx64 ", test 0x%" PRIx64 "\n", len, base, serial, test);
     keep();
-    show_certified(tl_certificate(len == 0 ? NULL : area.now, len, base, serial, test));
+    show_certified(tl_certificate(lend(&area, len), len, base, serial, test));
 }
 
 static void check09(void)
 {
     printf("tl09_check: %zu bytes at 0x%" PRIx64 "\n", len, base);
     keep();
-    show_checked(tl09_check(len == 0 ? NULL : area.now, len, base));
+    show_checked(tl09_check(lend(&area, len), len, base));
 }
 
 static void find09(uint32_t tag, uint64_t n)
 {
     printf("tl09_find: tag 0x%" PRIx32 ", occurrence %" PRIu64 "\n", tag, n);
     keep();
-    show_found(tl09_find(area.now, len, base, tag, n));
+    show_found(tl09_find(lend(&area, len), len, base, tag, n));
 }
 
-/* A target without bytes is lent as NULL. */
 static void convert09(size_t target_len, uint64_t target_base)
 {
     memset(target.now, 0xee, SPACE);
     printf("tl09_convert: target of %zu bytes at 0x%" PRIx64 "\n", target_len, target_base);
     keep();
-    show_done(tl09_convert(area.now, len, base, target_len == 0 ? NULL : target.now, target_len, target_base));
+    show_done(tl09_convert(lend(&area, len), len, base, lend(&target, target_len), target_len, target_base));
     show_buffer(&target, target_len);
 }
 
@@ -217,7 +245,7 @@ static void list(const char *what, const uint8_t *bytes, size_t n, size_t new_le
     show_hex(area.now, n);
 }
 
-/* Each call but create, on the list as it is. */
+/* Each call but create and the certificate, on the list as it is. */
 static void every_call(void)
 {
     check();
@@ -284,21 +312,30 @@ static void examples_a_to_h(void)
 
 static void examples_i_to_n(void)
 {
-    title("I: create: L 24 SHORT; 25 gives total 24; 65,536 accepted; 65,537 AREA");
+    title("I: create: L 24 SHORT; 25 gives total 24; 65,536 accepted; 16,777,217 AREA");
     create(24, 0x1000, true);
     create(25, 0x1000, true);
     create(65536, 0x1000, true);
-    create(65537, 0x1000, true);
-    title("J: alignment field 2 and 13 are SIZES; 3 and 12 pass");
+    create(LIMIT + 1, 0x1000, true);
+    title("J: alignment field 2 and 22 are SIZES; 3, 12, 13 and 21 pass");
     create(64, 0x1000, false);
     put(7, 1, 2);
     check();
-    put(7, 1, 13);
+    put(7, 1, 22);
     every_call();
     put(7, 1, 3);
     check();
     put(7, 1, 12);
     check();
+    put(7, 1, 13);
+    check();
+    put(7, 1, 21);
+    check();
+    title("J: relocated with alignment 21: shift 0; shift 32,768 into 32,792 bytes, and not into one less; shift 2^21 - 1 is ROOM");
+    relocate(64, 0x201000);
+    relocate(32792, 0x1f9000);
+    relocate(32791, 0x1f9000);
+    relocate(65536, 0x1001);
     title("K: an entry's data_size 0xffffffff: ENTRY");
     create(64, 0x1000, false);
     add(1, 0, false);
@@ -323,6 +360,14 @@ static void other_refusals(void)
     check();
     base = TOP - 56;
     every_call();
+    title("1 AREA: 16,777,217 bytes; 3 SIGNATURE: 16,777,216 and 65,537, which are all 0");
+    len = LIMIT + 1;
+    base = 0x1000;
+    every_call();
+    len = LIMIT;
+    every_call();
+    len = MOST + 1;
+    every_call();
     title("2 SHORT; 4 VERSION; 3 SIGNATURE, though the version is 0 as well");
     create(64, 0x1000, true);
     len = 0;
@@ -345,11 +390,11 @@ static void other_refusals(void)
     add(0x100, 9, false);
     add_aligned(0x104, 17, 4);
     add_aligned(4, 4, 2);
-    add_aligned(4, 4, 13);
+    add_aligned(4, 4, 22);
     add_aligned(4, 4, 12);
     title("12 TARGET: too long; 8 bytes above 2^48; one that ends there passes");
     create(64, 0x1000, true);
-    relocate(65537, 0x2000);
+    relocate(LIMIT + 1, 0x2000);
     relocate(128, TOP - 120);
     relocate(65536, TOP - 65536);
     title("13 NONE: occurrences are counted from 0, in 64 bits");
@@ -359,6 +404,36 @@ static void other_refusals(void)
     find(1, (uint64_t)1 << 32);
     strike(1, (uint64_t)1 << 32);
     strike(1, 1);
+}
+
+/* To a list of 65,536 bytes data of n bytes are added. The bytes behind its header are not 0 before. */
+static void add_far(uint64_t new_base, size_t n, uint32_t exponent)
+{
+    create(65536, new_base, true);
+    put(24, 65512, 0xee);
+    add_aligned(4, n, exponent);
+}
+
+static void great_exponents(void)
+{
+    title("exponent 13: a void of 4,056, all 0, data at 0x2000");
+    add_far(0x1000, 4, 13);
+    check();
+    title("exponent 21: a void of 32,728, all 0, data at 0x200000; then, without padding, data at 0x200010 with exponent 4");
+    add_far(0x1f8000, 4, 21);
+    check();
+    add_aligned(4, 8, 4);
+    check();
+    find(4, 1);
+    title("exponent 21: no padding where data go to 0x200000 without it; the next one is ROOM");
+    add_far(0x1fffe0, 4, 21);
+    add_aligned(4, 0, 21);
+    check();
+    title("exponent 21: data at 0x200000 are the last 16 bytes; 17 bytes are ROOM; so is a void of some 2 MiB");
+    add_far(0x1f0010, 17, 21);
+    add_far(0x1f0010, 16, 21);
+    check();
+    add_far(0x1000, 0, 21);
 }
 
 /* Lists of edition 0.9, the bytes of their size. Padding and voids' data are not 0, so that they are seen to be copied. */
@@ -488,9 +563,14 @@ static void refusals_09(void)
     check09();
     base = TOP - 64;
     every_call09();
-    len = 65537;
+    len = LIMIT + 1;
     base = 0x1000;
-    check09();
+    every_call09();
+    title("edition 0.9, 3 SIGNATURE: 16,777,216 and 65,537 bytes, which are all 0");
+    len = LIMIT;
+    every_call09();
+    len = MOST + 1;
+    every_call09();
     title("edition 0.9, 2 SHORT; 4 VERSION; 3 SIGNATURE, though the version is 0 as well");
     len = 0;
     check09();
@@ -501,17 +581,23 @@ static void refusals_09(void)
     every_call09();
     put(0, 1, 0xfe);
     every_call09();
-    title("edition 0.9, 6 SIZES: hdr_size 24; alignment 2 and 13, while 12 passes");
+    title("edition 0.9, 6 SIZES: hdr_size 24; alignment 2 and 22, while 12, 13 and 21 pass");
     list09(one_entry, 32, 64, 0x1000);
     put(6, 1, 24);
     every_call09();
     put(6, 1, 16);
     put(7, 1, 2);
     check09();
-    put(7, 1, 13);
+    put(7, 1, 22);
     check09();
     put(7, 1, 12);
     put(4, 1, 0xb9);
+    check09();
+    put(7, 1, 13);
+    put(4, 1, 0xba);
+    check09();
+    put(7, 1, 21);
+    put(4, 1, 0xc2);
     check09();
     title("edition 0.9, 6 SIZES: size 8, 36 and 72; max_size 24, 60 and 72");
     list09(one_entry, 32, 64, 0x1000);
@@ -563,19 +649,19 @@ static void refusals_09(void)
     check09();
     title("edition 0.9, 12 TARGET: too long; 8 bytes above 2^48; no sum wraps; one that ends there passes; 14 ROOM without a target");
     list09(one_entry, 32, 64, 0x1000);
-    convert09(65537, 0x2000);
+    convert09(LIMIT + 1, 0x2000);
     convert09(128, TOP - 120);
     convert09(8, UINT64_MAX - 7);
     convert09(65536, TOP - 65536);
     convert09(0, TOP + 1);
     convert09(0, TOP);
-    title("edition 0.9: a list of size 65,536 is 14 ROOM or 12 TARGET; one of size 65,528 goes into 65,536 bytes, and not into one less");
+    title("edition 0.9: size 65,536 is ROOM in 65,536 bytes, TARGET in 16,777,217; 65,528 goes into 65,536, and not into one less");
     list09(full, 24, 65536, 0x1000);
     put(24, 65512, 0x5a);
     check09();
     find09(1, 1);
     convert09(65536, 0x2000);
-    convert09(65537, 0x2000);
+    convert09(LIMIT + 1, 0x2000);
     put(4, 1, 0xf1);
     put(8, 1, 0xf8);
     put(9, 1, 0xff);
@@ -612,6 +698,9 @@ static void conversions_09(void)
     title("edition 0.9: from base 0, alignment 12: the new base is 4088 modulo 4096");
     convert_at(0, 12, 0xb9, 0, 4088);
     convert_at(0, 12, 0xb9, 0x2ff8, 0);
+    title("edition 0.9: from base 0, alignment 13: 8184 modulo 8192; alignment 21: 0x1ffff8 modulo 2^21");
+    convert_at(0, 13, 0xba, 0, 8184);
+    convert_at(0, 21, 0xc2, 0x1ffff8, 0);
     title("edition 0.9: from base 0x1008, alignment 3; from base 8, alignment 6 and 12: the new base is 0 modulo 2^alignment");
     convert_at(0x1008, 3, 0xb0, 0x2005, 3);
     convert_at(8, 6, 0xb3, 0x2008, 56);
@@ -619,6 +708,8 @@ static void conversions_09(void)
     title("edition 0.9: data at 0x1040, alignment 6: then at 0x2040; data at 0x1000, alignment 12: then at 0x4000, shift 4095");
     convert_at(0x1028, 6, 0xb3, 0x2008, 24);
     convert_at(0xfe8, 12, 0xb9, 0x2fe1, 4095);
+    title("edition 0.9: data at 0x200000, alignment 21: then at 0x400000, shift 0x7fff");
+    convert_at(0x1fffe8, 21, 0xc2, 0x3f7fe1, 32767);
 }
 
 static void event_logs(void)
@@ -638,8 +729,8 @@ static void event_logs(void)
     add(1, 16, false);
     add(5, 3, false);
     add(5, 4, false);
-    add_aligned(5, 3, 13);
-    add_aligned(5, 4, 13);
+    add_aligned(5, 3, 22);
+    add_aligned(5, 4, 22);
     strike(1, 0);
     add(5, 0, true);
     add(5, 3, true);
@@ -836,7 +927,7 @@ static void tidy_refusals(void)
     tidy();
     base = 0x1000;
     tidy();
-    len = 65537;
+    len = LIMIT + 1;
     tidy();
     title("tidy, 1 AREA: an area may end 2 bytes below 2^48, and not 6 bytes above");
     list("a list", mixed, sizeof mixed, 150, TOP - 144);
@@ -1214,7 +1305,7 @@ static void certificate_refusals(void)
     certificate(SERIAL, TEST);
     base = 0x1000;
     certificate(SERIAL, TEST);
-    len = 65537;
+    len = LIMIT + 1;
     certificate(SERIAL, TEST);
     title("certificate, 1 AREA: an area may end at 2^48, and not 8 bytes above; no sum wraps; 6 SIZES: the area is too short");
     put_certificate(BAND, 4000, 0.25, -100, 800, 1000);
@@ -1317,8 +1408,8 @@ static void certificate_adds(void)
     add(TL_TAG_CERTIFICATE, 56, false);
     add(TL_TAG_CERTIFICATE, 55, false);
     add(TL_TAG_CERTIFICATE, 56, false);
-    add_aligned(TL_TAG_CERTIFICATE, 57, 13);
-    add_aligned(TL_TAG_CERTIFICATE, 56, 13);
+    add_aligned(TL_TAG_CERTIFICATE, 57, 22);
+    add_aligned(TL_TAG_CERTIFICATE, 56, 22);
     strike(TL_TAG_CERTIFICATE, 0);
     add(TL_TAG_CERTIFICATE, 55, true);
     add(TL_TAG_CERTIFICATE, 56, true);
@@ -1362,7 +1453,7 @@ static void fdt_check(void)
 {
     printf("tl_fdt_check: %zu bytes\n", len);
     keep();
-    printf("  number %" PRIu32 "\n", tl_fdt_check(len == 0 ? NULL : area.now, len));
+    printf("  number %" PRIu32 "\n", tl_fdt_check(lend(&area, len), len));
     show_buffer(&area, len);
 }
 
@@ -1384,7 +1475,7 @@ static void fdt_find_bytes(const char *path, size_t path_len, const char *name, 
     show_text(name, name_len);
     putchar('\n');
     keep();
-    show_found(tl_fdt_find(len == 0 ? NULL : area.now, len, path_len == 0 ? NULL : p, path_len, name_len == 0 ? NULL : n, name_len));
+    show_found(tl_fdt_find(lend(&area, len), len, path_len == 0 ? NULL : p, path_len, name_len == 0 ? NULL : n, name_len));
 }
 
 static void fdt_find(const char *path, const char *name)
@@ -1452,7 +1543,7 @@ static void fdt_header(void)
     len = 177;
     fdt_check();
     fdt_find("/a", "p");
-    len = 65600;
+    len = 65536;
     fdt_check();
     title("device tree, 21: the magic number; version and last compatible are exactly 17 and 16; the boot cpu is not judged");
     fdt_but(0, 0xd10dfeed);
@@ -1813,43 +1904,42 @@ static void fdt_nesting(void)
     fdt_check();
 }
 
-/* A tree of 65,600 bytes: two NOPs, the root, 5,457 nodes a without anything, and b with p. */
+/* A tree of 65,536 bytes: a NOP, the root, 5,452 nodes a without anything, and b with p. */
 static void fdt_flat(void)
 {
-    title("device tree: over 65,536 bytes, of nodes side by side, the one asked for last");
-    len = 65600;
+    title("device tree: 65,536 bytes, of nodes side by side, the one asked for last");
+    len = 65536;
     memset(area.now, 0xee, SPACE);
     memcpy(area.now, hand_tree, 40);
     memset(area.now + 40, 0, 16);
-    write_word(TOTAL, 65600);
+    write_word(TOTAL, 65536);
     write_word(STRUCT, 56);
-    write_word(STRINGS, 65592);
+    write_word(STRINGS, 65528);
     write_word(STRINGS_SIZE, 2);
-    write_word(STRUCT_SIZE, 65536);
+    write_word(STRUCT_SIZE, 65472);
     write_word(56, 4);
-    write_word(60, 4);
-    write_word(64, 1);
-    write_word(68, 0);
-    for (size_t at = 72; at < 65556; at += 12) {
+    write_word(60, 1);
+    write_word(64, 0);
+    for (size_t at = 68; at < 65492; at += 12) {
         write_word(at, 1);
         write_word(at + 4, 0x61000000);
         write_word(at + 8, 2);
     }
-    write_word(65556, 1);
-    write_word(65560, 0x62000000);
-    write_word(65564, 3);
-    write_word(65568, 4);
-    write_word(65572, 0);
-    write_word(65576, 0x11223344);
-    write_word(65580, 2);
-    write_word(65584, 2);
-    write_word(65588, 9);
-    write_word(65592, 0x7000eeee);
-    printf("by hand: a tree of 65600 bytes, 5457 nodes a and one b with p\n");
+    write_word(65492, 1);
+    write_word(65496, 0x62000000);
+    write_word(65500, 3);
+    write_word(65504, 4);
+    write_word(65508, 0);
+    write_word(65512, 0x11223344);
+    write_word(65516, 2);
+    write_word(65520, 2);
+    write_word(65524, 9);
+    write_word(65528, 0x7000eeee);
+    printf("by hand: a tree of 65536 bytes, 5452 nodes a and one b with p\n");
     fdt_check();
     fdt_find("/b", "p");
     fdt_find("/a", "p");
-    put_word(65588, 4);
+    put_word(65524, 4);
     fdt_check();
     fdt_find("/b", "p");
 }
@@ -1954,7 +2044,7 @@ static void put_file(const char *name)
 {
     FILE *f = fopen(name, "rb");
     memset(area.now, 0xee, SPACE);
-    len = f == NULL ? 0 : fread(area.now, 1, SPACE, f);
+    len = f == NULL ? 0 : fread(area.now, 1, MOST, f);
     if (f != NULL)
         fclose(f);
     printf("by hand: %s, %zu bytes\n", name, len);
@@ -2011,9 +2101,15 @@ static void fdt_files(void)
 
 int main(void)
 {
+    zero_bytes = calloc(LIMIT + 1 + BEHIND, 1);
+    if (zero_bytes == NULL) {
+        fprintf(stderr, "no memory for %u bytes\n", LIMIT + 1 + BEHIND);
+        return 2;
+    }
     examples_a_to_h();
     examples_i_to_n();
     other_refusals();
+    great_exponents();
     edition_09();
     refusals_09();
     conversions_09();
@@ -2041,5 +2137,6 @@ int main(void)
     fdt_paths();
     fdt_first();
     fdt_files();
+    free(zero_bytes);
     return 0;
 }

@@ -23,7 +23,7 @@ static const char *const causes[] = {
     "an entry breaks a rule",
     "the tag is 0, too large or reserved",
     "this tag may not carry data of this length",
-    "the exponent is outside 3 to 12",
+    "the exponent is outside 3 to 21",
     "the target is too long or above 2^48",
     "no such occurrence of the tag, or no such property",
     "there is no room for it",
@@ -94,10 +94,10 @@ static uint32_t print_checked(tl_checked c, const uint8_t *area, uint64_t base, 
     }
     printf("version %u, used %u of %u, alignment 2^%u, checksum %02x (%s), %u live, %u void\n", (unsigned)c.version, (unsigned)c.used,
            (unsigned)c.total, (unsigned)c.alignment, area[4], checksum, (unsigned)c.live, (unsigned)c.voids);
-    printf("  offset  tag     kind                  size  address         data\n");
+    printf("    offset  tag     kind                      size  address         data\n");
     for (uint32_t at = (area[6] + 7u) / 8 * 8; at < c.used;) {
         uint32_t tag = number_at(area, at, 3), hdr_size = area[at + 3], size = number_at(area, at + 4, 4);
-        printf("  %6u  %06x  %-20s  %4u  0x%012llx ", (unsigned)at, (unsigned)tag, tag_name(tag), (unsigned)size,
+        printf("  %8u  %06x  %-20s  %8u  0x%012llx ", (unsigned)at, (unsigned)tag, tag_name(tag), (unsigned)size,
                (unsigned long long)(base + at + hdr_size));
         print_data(tag, area + at + hdr_size, size);
         at += (hdr_size + size + 7) / 8 * 8;

@@ -27,20 +27,20 @@ extern "C" {
  * In lists of edition 0.9, which the tl09_ functions are for, used_size is called size, and total_size max_size.
  */
 #define TL_ACCEPTED 0u   /* not refused */
-#define TL_AREA 1u       /* base is no multiple of 8, base + len exceeds 2^48, or len exceeds 65,536 */
+#define TL_AREA 1u       /* base is no multiple of 8, base + len exceeds 2^48, or len exceeds 16,777,216 (16 MiB) */
 #define TL_SHORT 2u      /* len is under 24; for tl_create, 24 or less; in edition 0.9, under 16 */
 #define TL_SIGNATURE 3u  /* the signature is not 0x4a0fb10b; in edition 0.9, not 0x006ed0ff */
 #define TL_VERSION 4u    /* the version is 0 */
 #define TL_READONLY 5u   /* the version is over 1 and the call is an edit or a conversion */
-#define TL_SIZES 6u      /* hdr_size, alignment, used_size or total_size is wrong, or total_size exceeds len */
+#define TL_SIZES 6u      /* hdr_size, used_size or total_size is wrong, alignment is outside 3 to 21, or total_size exceeds len */
 #define TL_CHECKSUM 7u   /* with has_checksum the exclusive or of the used bytes is not 0; without it the checksum byte is not 0; */
                          /* in edition 0.9, the checksum byte is not the sum modulo 256 of the other used bytes */
 #define TL_ENTRY 8u      /* an entry's hdr_size is wrong, it exceeds used_size, or a void's data_size is no multiple of 8 */
 #define TL_TAG 9u        /* the tag is 0 or over 0xffffff; for the adds also 0x800000 to 0xffefff */
 #define TL_SHAPE 10u     /* the tag may not carry data of this length: tag 5 under 4 bytes, 6 not 12, 0x100 not 8, 0x104 not 16, */
                          /* 0xfff010 not 56 */
-#define TL_ALIGN 11u     /* the exponent is outside 3 to 12 */
-#define TL_TARGET 12u    /* target base + target length exceeds 2^48, or the target length exceeds 65,536 */
+#define TL_ALIGN 11u     /* the exponent is outside 3 to 21 */
+#define TL_TARGET 12u    /* target base + target length exceeds 2^48, or the target length exceeds 16,777,216 */
 #define TL_NONE 13u      /* no such occurrence of the tag; for tl_fdt_find() no such property */
 #define TL_ROOM 14u      /* there is no room for it */
 
@@ -192,13 +192,14 @@ tl_done tl_add(uint8_t *area, size_t len, uint64_t base, uint32_t tag, const uin
  * @exponent: the power of two's exponent
  *
  * tl_add_aligned() checks the list, and then writes the entry at used_size, behind a padding void where one is needed so that
- * base + offset of the data is a multiple of 2^exponent. It never uses a void. The alignment field becomes the larger of itself and
- * exponent. The checksum byte is put right.
+ * base + offset of the data is a multiple of 2^exponent. The padding void takes fewer than 2^exponent bytes, with exponent 21 fewer than
+ * 2 MiB, and its data are 0. tl_add_aligned() never uses a void. The alignment field becomes the larger of itself and exponent. The
+ * checksum byte is put right.
  *
  * returns:
  *	number 0, and the offset of the new data
  *	each refusal of tl_add() before TL_ROOM
- *	TL_ALIGN, exponent is outside 3 to 12
+ *	TL_ALIGN, exponent is outside 3 to 21
  *	TL_ROOM, the padding void and the entry together do not fit behind used_size; neither is written
  */
 tl_done tl_add_aligned(uint8_t *area, size_t len, uint64_t base, uint32_t tag, const uint8_t *data, size_t data_len, uint32_t exponent);
@@ -258,7 +259,7 @@ tl_done tl_tidy(uint8_t *area, size_t len, uint64_t base);
  * returns:
  *	number 0, and the shift
  *	each refusal of tl_check(), and TL_READONLY as in tl_add()
- *	TL_TARGET, target_base + target_len exceeds 2^48 or target_len exceeds 65,536
+ *	TL_TARGET, target_base + target_len exceeds 2^48 or target_len exceeds 16,777,216
  *	TL_ROOM, shift + used_size exceeds target_len
  */
 tl_done tl_relocate(const uint8_t *area, size_t len, uint64_t base, uint8_t *target, size_t target_len, uint64_t target_base);
@@ -379,11 +380,11 @@ tl_found tl_fdt_find(const uint8_t *data, size_t len, const uint8_t *path, size_
  *
  * returns:
  *	number 0, and the list's version, its size as used, its max_size as total, its alignment, and its numbers of live and void entries
- *	TL_AREA, base is no multiple of 8, base + len exceeds 2^48, or len exceeds 65,536
+ *	TL_AREA, base is no multiple of 8, base + len exceeds 2^48, or len exceeds 16,777,216
  *	TL_SHORT, len is under 16
  *	TL_SIGNATURE, the signature is not 0x006ed0ff
  *	TL_VERSION, the version is 0
- *	TL_SIZES, hdr_size is not 16 (version 1) or is under 16 (above), alignment is outside 3 to 12, size or max_size is no multiple of 8,
+ *	TL_SIZES, hdr_size is not 16 (version 1) or is under 16 (above), alignment is outside 3 to 21, size or max_size is no multiple of 8,
  *	size is under hdr_size rounded up to a multiple of 8, size exceeds max_size, or max_size exceeds len
  *	TL_CHECKSUM, the checksum byte is not the sum modulo 256 of the other bytes of size
  *	TL_ENTRY, an entry's hdr_size is not 8 (version 1) or is under 8 (above), it reaches beyond size, or a void's data_size is no
@@ -430,8 +431,8 @@ tl_found tl09_find(const uint8_t *area, size_t len, uint64_t base, uint32_t tag,
  *	number 0, and the shift
  *	each refusal of tl09_check()
  *	TL_READONLY, the list's version is over 1; it comes after TL_VERSION and before TL_SIZES
- *	TL_TARGET, target_base + target_len exceeds 2^48 or target_len exceeds 65,536
- *	TL_ROOM, shift + size + 8 exceeds target_len; so a list whose size is 65,536 cannot be converted
+ *	TL_TARGET, target_base + target_len exceeds 2^48 or target_len exceeds 16,777,216
+ *	TL_ROOM, shift + size + 8 exceeds target_len; so a list whose size is 16,777,216 cannot be converted
  */
 tl_done tl09_convert(const uint8_t *area, size_t len, uint64_t base, uint8_t *target, size_t target_len, uint64_t target_base);
 

@@ -45,16 +45,18 @@ pub fn rows() {
 
 fn subjects() -> Vec<Subject> {
     let mut subjects = vec![];
-    for (what, total, calls) in [("4 KiB", 4 << 10, 1000), ("64 KiB", 64 << 10, 50), ("1 MiB", 1 << 20, 3)] {
+    for (what, total, calls) in [("4 KiB", 4 << 10, 1000), ("64 KiB", 64 << 10, 50), ("1 MiB", 1 << 20, 3), ("16 MiB", 16 << 20, 1)] {
         let (tree, words, [middle, last]) = trees::grown(total);
         subjects.push(Subject { what, words, tree, calls, asked: vec![(" midway", middle), (" in the last node", last)] });
     }
-    for (what, size) in [("one value of 60,000 bytes", 60_000), ("one value of 1 MiB", 1 << 20)] {
+    for (what, size) in [("one value of 60,000 bytes", 60_000), ("one value of 1 MiB", 1 << 20), ("one value of 16 MiB", 16 << 20)] {
         let (tree, place) = trees::long(size);
         subjects.push(Subject { what, words: "1 node, 1 property".into(), tree, calls: 1000, asked: vec![("", place)] });
     }
-    let (tree, words, place) = trees::flat(64 << 10);
-    subjects.push(Subject { what: "64 KiB, flat", words, tree, calls: 50, asked: vec![(" in the last node", place)] });
+    for (what, total, calls) in [("64 KiB, flat", 64 << 10, 50), ("16 MiB, flat", 16 << 20, 1)] {
+        let (tree, words, place) = trees::flat(total);
+        subjects.push(Subject { what, words, tree, calls, asked: vec![(" in the last node", place)] });
+    }
     subjects
 }
 

@@ -1,10 +1,13 @@
 //! Times the library beside plain Rust in one run, both fully optimised, and its device trees beside libfdt too: `make bench`.
 mod fdt;
+mod growth;
+mod lists;
 mod plain;
 mod plain_fdt;
 mod trees;
 mod xor;
 
+use lists::LAST;
 use plain::{Certified, Checked, Done, Found};
 use std::hint::black_box;
 use std::ops::Range;
@@ -21,10 +24,11 @@ extern "C" {
     fn tl09_convert(area: *const u8, len: usize, base: u64, target: *mut u8, target_len: usize, target_base: u64) -> Done;
 }
 
-const LENGTH: usize = 65536;
+/// The lengths of lists that most rows are on.
+const LENGTHS: [usize; 2] = [65_536, plain::MOST];
+const ROUNDS: usize = 200;
 const BASE: u64 = 0x1000;
 const TARGET_BASE: u64 = 0x20000;
-const LAST: u32 = 0xff_f001;
 const DATA: [u8; 64] = [0x5a; 64];
 const SERIAL: u64 = 5501;
 const TEST: u64 = 71;
@@ -61,73 +65,10 @@ fn library_convert09(area: &[u8], target: &mut [u8]) -> Done {
     unsafe { tl09_convert(area.as_ptr(), area.len(), BASE, target.as_mut_ptr(), target.len(), TARGET_BASE) }
 }
 
-/// A list of 65,536 bytes with checksums on: entries with a tag and a data size each, in order, from 24 on.
-fn list(entries: impl IntoIterator<Item = (u32, usize)>) -> Vec<u8> {
-    let mut a = vec![0u8; LENGTH];
-    a[..4].copy_from_slice(&0x4a0f_b10bu32.to_le_bytes());
-    a[5..8].copy_from_slice(&[1, 24, 3]);
-    a[12..16].copy_from_slice(&(LENGTH as u32).to_le_bytes());
-    a[16] = 1;
-    let used = put_entries(&mut a, 24, entries);
-    a[4] = a[..used].iter().fold(0, |x, b| x ^ b);
-    a
-}
-
-/// The same with one entry more, a certificate that passes a band.
-fn certified(entries: impl IntoIterator<Item = (u32, usize)>) -> Vec<u8> {
-    let mut a = list(entries.into_iter().chain([(plain::CERTIFICATE, 56)]));
-    let used = u32::from_le_bytes(a[8..12].try_into().unwrap()) as usize;
-    let numbers = [SERIAL, TEST, 4000 << 32 | 1].into_iter().chain([0.25f64, -100.0, 880.0, 920.0].map(f64::to_bits));
-    for (to, number) in a[used - 56..used].chunks_exact_mut(8).zip(numbers) {
-        to.copy_from_slice(&number.to_le_bytes());
-    }
-    a[4] = 0;
-    a[4] = a[..used].iter().fold(0, |x, b| x ^ b);
-    a
-}
-
-/// A list likewise in edition 0.9: entries from 16 on, and the sum.
-fn list09(entries: impl IntoIterator<Item = (u32, usize)>) -> Vec<u8> {
-    let mut a = vec![0u8; LENGTH];
-    a[..4].copy_from_slice(&0x006e_d0ffu32.to_le_bytes());
-    a[5..8].copy_from_slice(&[1, 16, 3]);
-    a[12..16].copy_from_slice(&(LENGTH as u32).to_le_bytes());
-    let size = put_entries(&mut a, 16, entries);
-    a[4] = a[..size].iter().fold(0, |sum, b| sum.wrapping_add(*b));
-    a
-}
-
-/// Writes the entries, and the used size, which it answers.
-fn put_entries(a: &mut [u8], first: usize, entries: impl IntoIterator<Item = (u32, usize)>) -> usize {
-    let mut at = first;
-    for (tag, size) in entries {
-        a[at..at + 3].copy_from_slice(&tag.to_le_bytes()[..3]);
-        a[at + 3] = 8;
-        a[at + 4..at + 8].copy_from_slice(&(size as u32).to_le_bytes());
-        for (i, byte) in a[at + 8..at + 8 + size].iter_mut().enumerate() {
-            *byte = if tag == 0 { 0 } else { i as u8 };
-        }
-        at += (8 + size).div_ceil(8) * 8;
-    }
-    a[8..12].copy_from_slice(&(at as u32).to_le_bytes());
-    at
-}
-
-/// A full list of entries of 16 bytes, one of 8 behind them. Every second one is a void, whose data are not 0.
-fn every_second_void() -> Vec<u8> {
-    let mut a = list((0..4094).map(|_| (1, 8)).chain([(1, 0)]));
-    for at in (24..LENGTH - 8).step_by(32) {
-        a[at] = 0;
-    }
-    a[4] = 0;
-    a[4] = a.iter().fold(0, |x, b| x ^ b);
-    a
-}
-
 /// The least time of a call in nanoseconds, over rounds of calls that take turns.
-fn least(rounds: usize, calls: usize, mut library: impl FnMut(), mut plain: impl FnMut()) -> (f64, f64) {
+fn least(calls: usize, mut library: impl FnMut(), mut plain: impl FnMut()) -> (f64, f64) {
     let mut best = (f64::MAX, f64::MAX);
-    for _ in 0..rounds {
+    for _ in 0..ROUNDS {
         best.0 = best.0.min(time(calls, &mut library));
         best.1 = best.1.min(time(calls, &mut plain));
     }
@@ -147,17 +88,21 @@ fn report(what: &str, times: (f64, f64)) {
 }
 
 fn report_beside(beside: &str, what: &str, (library, other): (f64, f64)) {
-    println!("{what:<52} library {library:>9.1} ns  {beside:<10} {other:>9.1} ns  ratio {:.2}", library / other);
+    println!("{what:<56} library {library:>10.1} ns  {beside:<10} {other:>10.1} ns  ratio {:.2}", library / other);
 }
 
-/// How many calls a round has: fewer where the list is long.
-fn calls(area: &[u8]) -> usize {
-    let used = u32::from_le_bytes(area[8..12].try_into().unwrap());
-    if used < 1000 {
-        1000
+/// A number with commas, as 65,536.
+fn grouped(n: usize) -> String {
+    if n < 1000 {
+        n.to_string()
     } else {
-        50
+        format!("{},{:03}", grouped(n / 1000), n % 1000)
     }
+}
+
+/// How many calls a round has: fewer where the list is long, and one above 1.5 MiB.
+fn calls(area: &[u8]) -> usize {
+    ((3 << 20) / lists::used(area)).clamp(1, 1000)
 }
 
 /// Times a call that only reads.
@@ -175,7 +120,6 @@ fn times_reading<T: PartialEq + std::fmt::Debug>(
 ) -> (f64, f64) {
     assert_eq!(library(bytes), other(bytes), "{what}");
     least(
-        200,
         calls,
         || {
             black_box(library(black_box(bytes)));
@@ -187,8 +131,18 @@ fn times_reading<T: PartialEq + std::fmt::Debug>(
 }
 
 fn time_check(what: &str, area: &[u8]) {
+    report(what, times_check(what, area));
+}
+
+/// The times of a check that accepts.
+fn times_check(what: &str, area: &[u8]) -> (f64, f64) {
     assert_eq!(library_check(area).number, 0, "{what}");
-    time_reading(what, area, library_check, |a| plain::check(a, BASE, false));
+    times_reading(what, area, calls(area), library_check, |a| plain::check(a, BASE, false))
+}
+
+fn time_find(what: &str, area: &[u8]) {
+    assert_eq!(library_find(area).number, 0, "{what}");
+    time_reading(what, area, library_find, |a| plain::find(a, BASE, LAST, 0));
 }
 
 fn time_certificate(what: &str, area: &[u8]) {
@@ -211,7 +165,6 @@ fn time_edit(what: &str, area: &[u8], changed: Range<usize>, library: impl Fn(&m
     put_back(&mut other);
     assert!(one == area && other == area, "{what}: more bytes changed");
     let times = least(
-        200,
         calls(area),
         || {
             black_box(library(black_box(&mut one)));
@@ -225,21 +178,35 @@ fn time_edit(what: &str, area: &[u8], changed: Range<usize>, library: impl Fn(&m
     report(what, times);
 }
 
-/// Times tidying, after which the whole list is put back.
-fn time_tidy(what: &str, area: &[u8]) {
-    time_edit(what, area, 24..LENGTH, library_tidy, |a| plain::tidy(a, BASE));
+/// Times adding 64 bytes, after which these bytes are put back.
+fn time_add(what: &str, area: &[u8], changed: Range<usize>, voids: bool) {
+    time_edit(what, area, changed, |a| library_add(a, voids), |a| plain::add(a, BASE, LAST, &DATA, voids));
 }
 
-/// Times a conversion into a target of 65,536 bytes.
+/// Times voiding the one entry with the tag that is looked for.
+fn time_void(what: &str, area: &[u8], changed: Range<usize>) {
+    time_edit(what, area, changed, library_void, |a| plain::void(a, BASE, LAST, 0));
+}
+
+/// Times tidying, after which the whole list is put back.
+fn time_tidy(what: &str, area: &[u8]) {
+    time_edit(what, area, 24..area.len(), library_tidy, |a| plain::tidy(a, BASE));
+}
+
+fn time_check09(what: &str, area: &[u8]) {
+    assert_eq!(library_check09(area).number, 0, "{what}");
+    time_reading(what, area, library_check09, |a| plain::check09(a, BASE, false));
+}
+
+/// Times a conversion into a target that is as long as the area.
 fn time_convert09(what: &str, area: &[u8]) {
-    let (mut one, mut other) = (vec![0xee; LENGTH], vec![0xee; LENGTH]);
+    let (mut one, mut other) = (vec![0xee; area.len()], vec![0xee; area.len()]);
     let done = plain::convert09(area, BASE, &mut other, TARGET_BASE);
     assert_eq!(done.number, 0, "{what}");
     assert_eq!(library_convert09(area, &mut one), done, "{what}");
     assert!(one == other, "{what}: the bytes differ");
     let times = least(
-        200,
-        50,
+        calls(area),
         || {
             black_box(library_convert09(black_box(area), black_box(&mut one)));
         },
@@ -250,62 +217,41 @@ fn time_convert09(what: &str, area: &[u8]) {
     report(what, times);
 }
 
+/// The rows on lists of this many bytes.
+fn rows(length: usize) {
+    let (name, end) = (grouped(length), length - 256..length);
+    time_check(&format!("check, {name} bytes, one entry"), &lists::one_entry(length));
+    time_check(&format!("check, {name} bytes, entries of 8 bytes"), &lists::of_8_bytes(length, 1));
+    let (open, ended) = (lists::of_32_bytes(length, false), lists::of_32_bytes(length, true));
+    time_find(&format!("find the last, {name} bytes, entries of 32 bytes"), &ended);
+    time_add(&format!("add at the tail, {name} bytes, entries of 32 bytes"), &open, end.clone(), false);
+    time_void(&format!("void the last, {name} bytes, entries of 32 bytes"), &ended, end.clone());
+    time_add(&format!("add into the last of many voids, {name} bytes"), &lists::many_voids(length), end, true);
+    time_tidy(&format!("tidy, {name} bytes, voids of 8 bytes"), &lists::of_8_bytes(length, 0));
+    time_tidy(&format!("tidy, {name} bytes, every second entry a void"), &lists::every_second_void(length));
+    let certified = lists::certified(length, (0..(length - 24 - 64) / 8).map(|_| (1, 0)));
+    time_certificate(&format!("certificate, {name} bytes, behind entries of 8 bytes"), &certified);
+    time_check09(&format!("edition 0.9: check, {name} bytes, one entry"), &lists::one_entry09(length, length));
+    let size = length - 536;
+    time_convert09(&format!("edition 0.9: convert, {} bytes, one entry", grouped(size)), &lists::one_entry09(length, size));
+}
+
+/// The rows on lists of a few entries.
+fn short_rows() {
+    // three entries of 112 bytes each, up to byte 360
+    let short = lists::list(LENGTHS[0], [(1, 100), (1, 100), (LAST, 100)]);
+    time_check("check, three entries of 112 bytes", &short);
+    time_add("add 64 bytes behind three entries of 112 bytes", &short, 360..432, false);
+    time_void("void the last of three entries of 112 bytes", &short, 248..360);
+    time_certificate("certificate, the last of four entries", &lists::certified(LENGTHS[0], [(1, 40), (LAST, 16), (1, 7)]));
+}
+
 fn main() {
     xor::rows();
-    time_check("check, 65,536 bytes, one entry", &list([(1, LENGTH - 32)]));
-    time_check("check, 65,536 bytes, entries of 8 bytes", &list((0..(LENGTH - 24) / 8).map(|_| (1, 0))));
-    // entries of 32 bytes each up to byte 65,464, then 72 bytes of room
-    let rows = (0..2045).map(|_| (1, 24));
-    let found = list(rows.clone().chain([(LAST, 64)]));
-    assert_eq!(library_find(&found).number, 0);
-    time_reading("find the last entry, entries of 32 bytes", &found, library_find, |a| plain::find(a, BASE, LAST, 0));
-    time_edit(
-        "add 64 bytes at the tail, entries of 32 bytes",
-        &list(rows.clone()),
-        LENGTH - 256..LENGTH,
-        |a| library_add(a, false),
-        |a| plain::add(a, BASE, LAST, &DATA, false),
-    );
-    time_edit(
-        "void the last entry, entries of 32 bytes",
-        &list(rows.chain([(LAST, 64)])),
-        LENGTH - 256..LENGTH,
-        library_void,
-        |a| plain::void(a, BASE, LAST, 0),
-    );
-    // voids of 24 bytes each, then one of 72
-    let voids = (0..2726).map(|_| (0, 16)).chain([(0, 64)]);
-    time_edit(
-        "add 64 bytes into the last of many voids",
-        &list(voids),
-        LENGTH - 256..LENGTH,
-        |a| library_add(a, true),
-        |a| plain::add(a, BASE, LAST, &DATA, true),
-    );
-    // three entries of 112 bytes each, up to byte 360
-    let short = list([(1, 100), (1, 100), (LAST, 100)]);
-    time_check("check, three entries of 112 bytes", &short);
-    time_edit(
-        "add 64 bytes behind three entries of 112 bytes",
-        &short,
-        360..432,
-        |a| library_add(a, false),
-        |a| plain::add(a, BASE, LAST, &DATA, false),
-    );
-    time_edit(
-        "void the last of three entries of 112 bytes",
-        &short,
-        248..360,
-        library_void,
-        |a| plain::void(a, BASE, LAST, 0),
-    );
-    time_tidy("tidy, 65,536 bytes, voids of 8 bytes", &list((0..(LENGTH - 24) / 8).map(|_| (0, 0))));
-    time_tidy("tidy, 65,536 bytes, every second entry a void", &every_second_void());
-    time_certificate("certificate, the last of four entries", &certified([(1, 40), (LAST, 16), (1, 7)]));
-    time_certificate("certificate, 65,536 bytes, behind entries of 8 bytes", &certified((0..(LENGTH - 24 - 64) / 8).map(|_| (1, 0))));
-    let old = list09([(1, LENGTH - 24)]);
-    assert_eq!(library_check09(&old).number, 0);
-    time_reading("edition 0.9: check, 65,536 bytes, one entry", &old, library_check09, |a| plain::check09(a, BASE, false));
-    time_convert09("edition 0.9: convert, 65,000 bytes, one entry", &list09([(1, 65000 - 24)]));
+    for length in LENGTHS {
+        rows(length);
+    }
+    short_rows();
+    growth::table();
     fdt::rows();
 }

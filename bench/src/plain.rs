@@ -1,5 +1,9 @@
 //! Plain Rust with the same answers, without proofs: what the library is measured beside.
 
+/// The most bytes of an area and of a target, and the greatest alignment.
+pub const MOST: usize = 16_777_216;
+const GREATEST: u8 = 21;
+
 #[repr(C)]
 #[derive(Clone, Copy, Debug, Default, PartialEq, Eq)]
 pub struct Checked {
@@ -48,7 +52,7 @@ pub fn check09(area: &[u8], base: u64, converting: bool) -> Checked {
 /// The check with an edition's signature, own header size and checksum rule. It becomes a part of each of the two.
 #[inline(always)]
 fn check_edition(area: &[u8], base: u64, editing: bool, signature: u32, own: u8, summed: impl FnOnce(&[u8]) -> bool) -> Checked {
-    if base % 8 != 0 || area.len() > 65536 || base > 1 << 48 || base + area.len() as u64 > 1 << 48 {
+    if base % 8 != 0 || area.len() > MOST || base > 1 << 48 || base + area.len() as u64 > 1 << 48 {
         return refused(1);
     }
     if area.len() < own as usize {
@@ -67,7 +71,7 @@ fn check_edition(area: &[u8], base: u64, editing: bool, signature: u32, own: u8,
     let (used, total) = (word(area, 8), word(area, 12));
     let first = align8(hdr_size as u64);
     if header_size_wrong(version, own, hdr_size)
-        || !(3..=12).contains(&alignment)
+        || !(3..=GREATEST).contains(&alignment)
         || used % 8 != 0
         || total % 8 != 0
         || (used as u64) < first
@@ -339,7 +343,7 @@ pub fn convert09(area: &[u8], base: u64, target: &mut [u8], target_base: u64) ->
         return refused_edit(c.number);
     }
     let len = target.len();
-    if len > 65536 || target_base > 1 << 48 || target_base + len as u64 > 1 << 48 {
+    if len > MOST || target_base > 1 << 48 || target_base + len as u64 > 1 << 48 {
         return refused_edit(12);
     }
     let shift = (base.wrapping_sub(8).wrapping_sub(target_base) & ((1 << c.alignment) - 1)) as usize;

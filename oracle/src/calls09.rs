@@ -1,10 +1,12 @@
 //! The comparisons of check, find and convert for lists of edition 0.9.
 
 use crate::compare::{untouched, Asked, Bench, Buffer, Times};
+use crate::lent::Lent;
 use crate::library;
 use oracle::demand::Relocation;
 use oracle::demand09;
 use oracle::lists::List;
+use oracle::model::Done;
 use oracle::model09;
 use oracle::params::{self, Facts};
 use oracle::rng::Rng;
@@ -40,10 +42,23 @@ impl Bench {
         let given = library::find09(&mut area, list.base, tag, n);
         let numbers = || format!("base {:#x}, tag {tag:#x}, n {n:#x}", list.base);
         let asked = Asked { call: Call::Find09, numbers: &numbers };
-        self.judge(&asked, wanted, given, &[untouched("area", &list.area, &area)])
+        self.judge(&asked, wanted, given, &[untouched("area", &list.area, &area)])?;
+        self.see_large(|large| large.found(Call::Find09, &wanted));
+        Ok(())
     }
 
     pub fn convert09(&mut self, list: &List, bytes: &[u8], target_base: u64) -> Result<(), String> {
+        self.converted09(list, bytes, target_base)?;
+        Ok(())
+    }
+
+    /// The same; the answer that both gave, and the target as the library left it.
+    pub fn converted09(
+        &mut self,
+        list: &List,
+        bytes: &[u8],
+        target_base: u64,
+    ) -> Result<(Done, Lent), String> {
         let mut area = self.guards.lend(&list.area);
         let mut target = self.guards.lend(bytes);
         let mut after = bytes.to_vec();
@@ -56,11 +71,13 @@ impl Bench {
             Buffer { name: "target", before: bytes, wanted: &after, lent: &target },
         ];
         self.judge(&asked, wanted, given, &buffers)?;
+        self.alignments.count_move(Call::Convert09, &list.area, wanted.number);
+        self.see_large(|large| large.moved(Call::Convert09, &wanted));
         if wanted.number == 0 {
             let (area, base, shift) = (&list.area[..], list.base, wanted.value);
             let made = Relocation { area, base, target: &after, target_base, shift };
             asked.demand(demand09::after_conversion(&made), &buffers)?;
         }
-        Ok(())
+        Ok((wanted, target))
     }
 }

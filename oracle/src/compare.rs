@@ -1,13 +1,15 @@
 //! Makes each call on the library and on the model and compares the whole answer and every byte of
 //! every buffer lent, guard bytes included.
 
+use crate::large_sights;
 use crate::lent::{Guards, Lent};
 use crate::library;
 use oracle::add_lengths::AddLengths;
+use oracle::alignments::Alignments;
 use oracle::fdt_breaks::Breaks;
 use oracle::fdt_found::Finds;
 use oracle::fdt_sights;
-use oracle::lists::List;
+use oracle::lists::{List, MOST_LENT};
 use oracle::lists_certificate;
 use oracle::model::{self, Answer, Edition};
 use oracle::params::{self, Facts};
@@ -40,12 +42,15 @@ pub struct Bench {
     pub tally: Tally,
     pub event_logs: AddLengths,
     pub added_certificates: AddLengths,
+    pub alignments: Alignments,
     pub runs: Runs,
     pub sights: Sights,
     pub fdt_sights: fdt_sights::Sights,
     pub fdt_breaks: Breaks,
     pub fdt_finds: Finds,
     pub guards: Guards,
+    /// What a run on large lists has met; none in a run on many lists.
+    pub large: Option<large_sights::Sights>,
 }
 
 /// A call as a report names it.
@@ -68,13 +73,21 @@ impl Bench {
             tally: Tally::default(),
             event_logs: AddLengths::of_event_logs(),
             added_certificates: AddLengths::of_certificates(),
+            alignments: Alignments::default(),
             runs: Runs::default(),
             sights: Sights::default(),
             fdt_sights: fdt_sights::Sights::default(),
             fdt_breaks: Breaks::default(),
             fdt_finds: Finds::default(),
             guards: Guards::new(seed),
+            large: None,
         }
+    }
+
+    /// For large lists, whose buffers may be of any length.
+    pub fn for_large_lists(seed: u64) -> Bench {
+        let large = Some(large_sights::Sights::default());
+        Bench { guards: Guards::of_any_length(seed), large, ..Bench::new(seed) }
     }
 
     /// All calls on one list, those of the other edition too.
@@ -118,7 +131,16 @@ impl Bench {
         let given = library::find(&mut area, list.base, tag, n);
         let numbers = || format!("base {:#x}, tag {tag:#x}, n {n:#x}", list.base);
         let asked = Asked { call: Call::Find, numbers: &numbers };
-        self.judge(&asked, wanted, given, &[untouched("area", &list.area, &area)])
+        self.judge(&asked, wanted, given, &[untouched("area", &list.area, &area)])?;
+        self.see_large(|large| large.found(Call::Find, &wanted));
+        Ok(())
+    }
+
+    /// Lets a run on large lists count what it has met.
+    pub fn see_large(&mut self, count: impl FnOnce(&mut large_sights::Sights)) {
+        if let Some(large) = &mut self.large {
+            count(large);
+        }
     }
 
     /// Counts the call; a report where the answers differ or a buffer does not hold what it should.
@@ -130,6 +152,7 @@ impl Bench {
         buffers: &[Buffer],
     ) -> Result<(), String> {
         self.tally.count(asked.call, wanted.number());
+        self.see_large(|large| large.call(asked.call, wanted.number(), buffers));
         let byte = buffers.iter().find_map(|buffer| self.differing_byte(buffer));
         if wanted == given && byte.is_none() {
             return Ok(());
@@ -166,10 +189,18 @@ pub fn untouched<'a>(name: &'static str, bytes: &'a [u8], lent: &'a Lent) -> Buf
     Buffer { name, before: bytes, wanted: bytes, lent }
 }
 
+/// A buffer of up to 64 KiB is shown whole, of a longer one the start.
+const SHOWN_OF_LONGER: usize = 512;
+
 pub fn hex(bytes: &[u8]) -> String {
+    let is_whole = bytes.len() <= MOST_LENT;
+    let shown = if is_whole { bytes.len() } else { SHOWN_OF_LONGER };
     let mut text = format!("({} bytes) ", bytes.len());
-    for byte in bytes {
+    for byte in &bytes[..shown] {
         write!(text, "{byte:02x}").unwrap();
+    }
+    if !is_whole {
+        text.push_str(" ..");
     }
     text
 }

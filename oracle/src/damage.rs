@@ -1,7 +1,9 @@
 //! Whole lists spoiled: a byte, a field or an entry changed, a checksum by another rule, the area
 //! cut or lengthened, or a base at which it is not usable.
 
-use crate::lists::{has_fields, restore_checksum, rows, sum, total_size, used_size, xor, List, Row};
+use crate::lists::{
+    has_fields, restore_checksum, rows, sum, total_size, used_size, xor, List, Row, MOST_LENT,
+};
 use crate::model::{field, put_u32, Edition, ADDRESS_END};
 use crate::rng::Rng;
 
@@ -61,7 +63,7 @@ fn change_header(rng: &mut Rng, edition: Edition, area: &mut [u8]) {
         1 => area[field::CHECKSUM] ^= rng.range(1, 255) as u8,
         2 => area[field::VERSION] = rng.pick(&[0, 0, 1, 2, 255]),
         3 => area[field::HDR_SIZE] = rng.pick(&[0, 8, 15, 16, 17, 23, 24, 25, 31, 32, 40, 255]),
-        4 => area[field::ALIGNMENT] = rng.pick(&[0, 2, 3, 12, 13, 19, 35, 67, 131, 255]),
+        4 => area[field::ALIGNMENT] = rng.pick(&[0, 2, 3, 12, 13, 21, 22, 23, 35, 53, 67, 131, 255]),
         5 => change_used_size(rng, area),
         6 => change_total_size(rng, area),
         7 => put_u32(area, field::FLAGS, rng.word() as u32),
@@ -107,7 +109,7 @@ fn change_used_size(rng: &mut Rng, area: &mut [u8]) {
         2 => used.wrapping_sub(step),
         3 => total,
         4 => total.wrapping_add(step),
-        _ => rng.pick(&[0x8000_0000, 0xffff_fff8, 0xffff_ffff]),
+        _ => rng.pick(&[0x100_0000, 0x8000_0000, 0xffff_fff8, 0xffff_ffff]),
     };
     put_u32(area, field::USED_SIZE, value);
 }
@@ -124,7 +126,7 @@ fn change_total_size(rng: &mut Rng, area: &mut [u8]) {
         3 => total.wrapping_sub(step),
         4 => len / 8 * 8,
         5 => len / 8 * 8 + 8,
-        _ => rng.pick(&[0, 0x8000_0000, 0xffff_fff8, 0xffff_ffff]),
+        _ => rng.pick(&[0, 0x100_0000, 0x8000_0000, 0xffff_fff8, 0xffff_ffff]),
     };
     put_u32(area, field::TOTAL_SIZE, value);
 }
@@ -165,7 +167,7 @@ fn bad_data_size(rng: &mut Rng, area: &[u8], row: &Row) -> u32 {
     let step = rng.pick(&[1, 7, 8]);
     match rng.below(8) {
         0 => rng.pick(&[0xffff_ffff, 0xffff_fff9, 0xffff_fff8, 0xffff_fff7, 0xffff_fff0]),
-        1 => rng.pick(&[0x7fff_ffff, 0x8000_0000, 0x1_0000, 0xffff]),
+        1 => rng.pick(&[0x7fff_ffff, 0x8000_0000, 0x100_0000, 0x1_0000, 0xffff]),
         2 => (8 * rng.below(1 + area.len() as u64 / 8) as u32).wrapping_sub(start),
         3 => used.wrapping_sub(start),
         4 => used.wrapping_sub(start).wrapping_add(step),
@@ -178,7 +180,7 @@ fn bad_data_size(rng: &mut Rng, area: &[u8], row: &Row) -> u32 {
 /// The area cut or lengthened to a length at which something changes.
 fn resize(rng: &mut Rng, area: &mut Vec<u8>) {
     let len = match rng.below(40) {
-        0 => rng.pick(&[65_535, 65_536, 65_537]),
+        0 => rng.pick(&[MOST_LENT - 1, MOST_LENT]),
         1..=9 => rng.pick(&[0, 1, 7, 8, 9, 23, 24, 25, 31, 32, 33]),
         10..=19 => rng.range(15, 24) as usize,
         20..=29 if has_fields(area) => nearby(rng, total_size(area)),

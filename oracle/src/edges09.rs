@@ -1,9 +1,9 @@
 //! The edges of document 02, request 1, made on purpose on every run.
 
 use crate::compare::Bench;
-use oracle::lists::List;
+use oracle::lists::{List, MOST_LENT};
 use oracle::lists09::by_hand;
-use oracle::model::{Edition, ADDRESS_END, LONGEST_AREA};
+use oracle::model::{Edition, ADDRESS_END, HIGHEST_ALIGNMENT};
 
 /// A live entry whose padding is not 0, and a void whose data is not 0.
 const ENTRIES: [u8; 32] = [
@@ -30,7 +30,7 @@ fn small(alignment: u8, base: u64) -> List {
 impl Bench {
     pub fn edges09(&mut self) -> Result<(), String> {
         self.short_areas()?;
-        for alignment in 3..=12 {
+        for alignment in 3..=HIGHEST_ALIGNMENT as u8 {
             self.bases(alignment)?;
             self.ends(alignment)?;
         }
@@ -70,17 +70,17 @@ impl Bench {
         Ok(())
     }
 
-    /// Target lengths at ROOM and beside it.
+    /// Target lengths at ROOM and beside it, or the longest where that is less.
     fn lengths_at_room(&mut self, list: &List, shift: usize, target_base: u64) -> Result<(), String> {
         for target_len in [shift + USED - 1, shift + USED, shift + USED + 7, shift + USED + 8] {
-            self.convert09(list, &vec![BEFORE; target_len], target_base)?;
+            self.convert09(list, &vec![BEFORE; target_len.min(MOST_LENT)], target_base)?;
         }
         Ok(())
     }
 
     /// Targets that end at 2^48, a byte before it or behind it, that start there, or that end at 2^64.
     fn ends(&mut self, alignment: u8) -> Result<(), String> {
-        for target_len in [USED, USED + 8, LONGEST_AREA, LONGEST_AREA + 1] {
+        for target_len in [USED, USED + 8, MOST_LENT - 1, MOST_LENT] {
             let bytes = vec![BEFORE; target_len];
             let highest = END - target_len as u64;
             let wrapping = 0u64.wrapping_sub(target_len as u64);
@@ -92,16 +92,17 @@ impl Bench {
         Ok(())
     }
 
-    /// Lists that fill the limit, have just the 8 bytes less that a conversion needs, or 8 less than that.
+    /// Lists that fill the longest buffer, have just the 8 bytes less that a conversion needs, or 8 less
+    /// than that.
     fn full_lists(&mut self) -> Result<(), String> {
-        for size in [LONGEST_AREA - 16, LONGEST_AREA - 8, LONGEST_AREA] {
+        for size in [MOST_LENT - 16, MOST_LENT - 8, MOST_LENT] {
             let mut entries = vec![0x77; size - 16];
             entries[..4].copy_from_slice(&[1, 0, 0, 8]);
             entries[4..8].copy_from_slice(&(size as u32 - 24).to_le_bytes());
             let list = list(by_hand(3, &entries, size), 0);
             self.check09(&list)?;
             self.find09(&list, 1, 0)?;
-            for target_len in [LONGEST_AREA - 1, LONGEST_AREA, LONGEST_AREA + 1, LONGEST_AREA + 8] {
+            for target_len in [MOST_LENT - 8, MOST_LENT - 1, MOST_LENT] {
                 self.convert09(&list, &vec![BEFORE; target_len], 0)?;
             }
         }

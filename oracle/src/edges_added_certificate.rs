@@ -45,17 +45,18 @@ impl Bench {
         for use_voids in [false, true] {
             self.edit(list, &Edit::Add { tag, data, use_voids })?;
         }
-        for exponent in [2, 3, 6, 13] {
+        for exponent in [2, 3, 6, 13, 21, 22] {
             self.edit(list, &Edit::AddAligned { tag, data, exponent })?;
         }
         Ok(())
     }
 
-    /// What an add has put in is judged; after a second add there are two, and after a void one again.
+    /// What an add has put in is judged; after a second add there are two, and after a void one again. Up
+    /// to exponent 15 there is room for two.
     fn add_one_and_another(&mut self) -> Result<(), String> {
         let data = good().bytes();
-        for exponent in 3..=12 {
-            let mut list = list(1, 24, HAS_CHECKSUM, &[], &[0xa5; 10_000]);
+        for exponent in 3..=15 {
+            let mut list = list(1, 24, HAS_CHECKSUM, &[], &[0xa5; 40_000]);
             for number in [0, NOT_ONE] {
                 let add = Edit::AddAligned { tag: CERTIFICATE_TAG, data: &data, exponent };
                 expect(self.edit(&list, &add)?.number, 0)?;

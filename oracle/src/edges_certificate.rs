@@ -6,10 +6,10 @@ use crate::compare::Bench;
 use crate::edges_tidy::{by_hand, change_by, expect, pieces, REFUSALS};
 use oracle::certificate::{Certificate, BAND};
 use oracle::certificate_values::stated;
-use oracle::lists::List;
+use oracle::lists::{List, MOST_LENT};
 use oracle::lists09;
 use oracle::lists_certificate::{entry, list, BASE, HAS_CHECKSUM};
-use oracle::model::{self, Edition, ADDRESS_END, CERTIFICATE_TAG, LONGEST_AREA};
+use oracle::model::{self, Edition, ADDRESS_END, CERTIFICATE_TAG};
 use oracle::model_certificate::{LENGTH, NOT_ASKED, NOT_ONE, NOT_SOUND};
 
 const END: u64 = ADDRESS_END as u64;
@@ -159,12 +159,12 @@ impl Bench {
     /// Lists of 65,536 bytes, of entries without data and a certificate before, behind or among them.
     fn full_lists_with_certificates(&mut self) -> Result<(), String> {
         let one = of_bytes(LENGTH);
-        let fillers = (LONGEST_AREA - 24 - one.len()) / 8;
+        let fillers = (MOST_LENT - 24 - one.len()) / 8;
         for before in [0, 1, fillers / 2, fillers - 1, fillers] {
             let filler = |count: usize| entry(0xff_f011, 8, &[]).repeat(count);
             let mut list =
                 list(1, 24, HAS_CHECKSUM, &[filler(before), one.clone(), filler(fillers - before)], &[]);
-            for base in [0, END - LONGEST_AREA as u64] {
+            for base in [0, END - MOST_LENT as u64] {
                 list.base = base;
                 self.expect_number(&list, 0)?;
             }

@@ -7,7 +7,8 @@ use oracle::lists::{restore_checksum, List};
 use oracle::lists09::by_hand;
 use oracle::model::{self, field, Edition, EVENT_LOG_TAG};
 
-const BASE: u64 = 0x1000;
+/// 4096 below a boundary of every alignment.
+const BASE: u64 = 0x1f_f000;
 const BYTES: [u8; 5] = [1, 0, 0, 0, 0x5a];
 /// The event log; its neighbours; tags that are 5 once cut to 8 or to 24 bits.
 const TAGS: [u32; 5] = [EVENT_LOG_TAG, 4, 6, 0x105, 0x100_0005];
@@ -81,7 +82,7 @@ impl Bench {
                 for use_voids in [false, true] {
                     self.edit(list, &Edit::Add { tag, data, use_voids })?;
                 }
-                for exponent in [2, 3, 4, 12, 13] {
+                for exponent in [2, 3, 4, 12, 13, 21, 22] {
                     self.edit(list, &Edit::AddAligned { tag, data, exponent })?;
                 }
             }

@@ -3,6 +3,7 @@
 
 use crate::calls_fdt::Examined;
 use crate::compare::{hex, Bench};
+use crate::edges_fdt_large::SOME;
 use oracle::fdt_asked;
 use oracle::fdt_breaks::{self, Kind};
 use oracle::fdt_damage::damaged;
@@ -25,12 +26,12 @@ pub fn expect(given: u32, wanted: u32, data: &[u8]) -> Result<(), String> {
 }
 
 impl Bench {
-    /// All that is done with device trees.
+    /// All that is done with device trees within 64 KiB, and with lengths over 2^32.
     pub fn device_trees(&mut self, seed: u64) -> Result<(), String> {
         self.edges_fdt(seed)?;
         self.edges_fdt_small()?;
         self.edges_fdt_paths()?;
-        self.edges_fdt_large()?;
+        self.edges_fdt_large(SOME)?;
         self.huge_lengths_fdt()
     }
 

@@ -1,12 +1,12 @@
 //! The edges of document 02, request 3, made on purpose on every run: every short row of live entries
 //! and voids, every refusal, areas without a byte, adds that are ROOM before and not afterwards, and
-//! lists that fill the limit.
+//! lists that fill the longest buffer. `huge` has the lengths at the limit.
 
 use crate::compare::Bench;
 use oracle::demand::Edit;
-use oracle::lists::{restore_checksum, List};
+use oracle::lists::{restore_checksum, List, MOST_LENT};
 use oracle::lists09;
-use oracle::model::{self, field, put_u32, Edition, ADDRESS_END, LONGEST_AREA};
+use oracle::model::{self, field, put_u32, Edition, ADDRESS_END, HIGHEST_ALIGNMENT};
 use oracle::model_tidy;
 
 const BASE: u64 = 0x1000;
@@ -54,7 +54,7 @@ pub fn by_hand(alignment: u8, flags: u32, entries: &[u8], spare: usize, rest: us
 /// A list with a run at its start, one void alone in the middle and a run at its end, each with data
 /// that is not 0; so nothing of a refused tidy stays unseen. The first void is at 24, the first live
 /// entry at 56.
-fn with_runs() -> List {
+pub fn with_runs() -> List {
     let [live, empty, small, _, dirty] = pieces();
     let entries = [&dirty[..], &small, &live, &dirty, &empty, &small, &dirty].concat();
     by_hand(6, HAS_CHECKSUM, &entries, 16, 8)
@@ -72,14 +72,12 @@ fn grow(list: &mut List, offset: usize, by: u8) {
 }
 
 /// What gives each refusal; the checksum is put right afterwards where that is not the matter.
-pub const REFUSALS: [(u32, Change); 42] = [
+pub const REFUSALS: [(u32, Change); 40] = [
     (model::AREA, |list| list.base += 4),
     (model::AREA, |list| list.base += 1),
     (model::AREA, |list| list.base = END - list.area.len() as u64 / 8 * 8 + 8),
     (model::AREA, |list| list.base = END),
     (model::AREA, |list| list.base = 0u64.wrapping_sub(list.area.len() as u64 / 8 * 8)),
-    (model::AREA, |list| list.area.resize(LONGEST_AREA + 1, BEHIND)),
-    (model::AREA, |list| list.area.resize(LONGEST_AREA + 8, BEHIND)),
     (model::SHORT, |list| list.area.truncate(23)),
     (model::SHORT, |list| list.area.truncate(16)),
     (model::SHORT, |list| list.area.truncate(1)),
@@ -96,7 +94,7 @@ pub const REFUSALS: [(u32, Change); 42] = [
     (model::SIZES, |list| put_byte(list, field::HDR_SIZE, 25)),
     (model::SIZES, |list| put_byte(list, field::HDR_SIZE, 32)),
     (model::SIZES, |list| put_byte(list, field::ALIGNMENT, 2)),
-    (model::SIZES, |list| put_byte(list, field::ALIGNMENT, 13)),
+    (model::SIZES, |list| put_byte(list, field::ALIGNMENT, 22)),
     (model::SIZES, |list| grow(list, field::USED_SIZE, 4)),
     (model::SIZES, |list| put_u32(&mut list.area, field::USED_SIZE, 16)),
     (model::SIZES, |list| grow(list, field::USED_SIZE, 24)),
@@ -125,9 +123,9 @@ pub fn change_by(list: &mut List, (number, change): (u32, Change)) {
     }
 }
 
-/// These entries over and over, behind a header up to the end of the longest area.
+/// These entries over and over, behind a header up to the end of the longest buffer.
 fn full(entries: &[&[u8]]) -> Vec<u8> {
-    entries.concat().into_iter().cycle().take(LONGEST_AREA - 24).collect()
+    entries.concat().into_iter().cycle().take(MOST_LENT - 24).collect()
 }
 
 pub fn expect(given: u32, wanted: u32) -> Result<(), String> {
@@ -155,7 +153,7 @@ impl Bench {
         for code in 0..pieces.len().pow(length) {
             let digit = |at| code / pieces.len().pow(at) % pieces.len();
             let entries: Vec<u8> = (0..length).flat_map(|at| pieces[digit(at)].clone()).collect();
-            let alignment = 3 + (code % 10) as u8;
+            let alignment = 3 + (code % (HIGHEST_ALIGNMENT as usize - 2)) as u8;
             for flags in [HAS_CHECKSUM, OTHER_FLAGS, OTHER_FLAGS | HAS_CHECKSUM] {
                 for (spare, rest) in [(0, 0), (16, 3)] {
                     expect(self.tidy(&by_hand(alignment, flags, &entries, spare, rest))?.number, 0)?;
@@ -255,13 +253,13 @@ impl Bench {
             full(&[&void, &live]),
             full(&[&live, &void]),
             full(&[&dirty, &live]),
-            entry(0, LONGEST_AREA - 32, 0xd7),
-            entry(1, LONGEST_AREA - 35, 0x5a),
+            entry(0, MOST_LENT - 32, 0xd7),
+            entry(1, MOST_LENT - 35, 0x5a),
             voids,
         ];
         for entries in rows {
-            let mut list = by_hand(12, HAS_CHECKSUM, &entries, 0, 0);
-            for base in [0, END - LONGEST_AREA as u64] {
+            let mut list = by_hand(HIGHEST_ALIGNMENT as u8, HAS_CHECKSUM, &entries, 0, 0);
+            for base in [0, END - MOST_LENT as u64] {
                 list.base = base;
                 expect(self.tidy(&list)?.number, 0)?;
             }

@@ -5,7 +5,7 @@ use crate::lent::Lent;
 use crate::library;
 use oracle::demand::{self, Edit};
 use oracle::lists::List;
-use oracle::model::{self, Done};
+use oracle::model::{self, Done, Edition};
 use oracle::params::{self, Facts};
 use oracle::rng::Rng;
 use oracle::tally::Call;
@@ -33,7 +33,13 @@ impl Bench {
         Ok(())
     }
 
-    fn create(&mut self, bytes: &[u8], base: u64, has_checksum: bool) -> Result<(), String> {
+    pub fn create(&mut self, bytes: &[u8], base: u64, has_checksum: bool) -> Result<(), String> {
+        self.created(bytes, base, has_checksum)?;
+        Ok(())
+    }
+
+    /// The same; the area as the library left it.
+    pub fn created(&mut self, bytes: &[u8], base: u64, has_checksum: bool) -> Result<List, String> {
         let mut area = self.guards.lend(bytes);
         let mut after = bytes.to_vec();
         let wanted = model::create(&mut after, base, has_checksum);
@@ -45,11 +51,23 @@ impl Bench {
         if wanted.number == 0 {
             asked.demand(demand::after_create(&after, base), &buffers)?;
         }
-        Ok(())
+        Ok(List { area: area.bytes().to_vec(), base, edition: Edition::Current })
     }
 
     /// An add, an aligned add or a void on a list; the answer that both gave.
     pub fn edit(&mut self, list: &List, edit: &Edit) -> Result<Done, String> {
+        Ok(self.edited(list, edit)?.0)
+    }
+
+    /// The same; the list is carried on as the library left it.
+    pub fn edit_on(&mut self, list: &mut List, edit: &Edit) -> Result<Done, String> {
+        let (done, mut area) = self.edited(list, edit)?;
+        list.area = area.bytes().to_vec();
+        Ok(done)
+    }
+
+    /// The answer, and the area as the library left it.
+    fn edited(&mut self, list: &List, edit: &Edit) -> Result<(Done, Lent), String> {
         let call = call_of(edit);
         let mut area = self.guards.lend(&list.area);
         let mut data = self.guards.lend(data_of(edit));
@@ -65,15 +83,17 @@ impl Bench {
         self.judge(&asked, wanted, given, &buffers)?;
         self.event_logs.count(edit, wanted.number);
         self.added_certificates.count(edit, wanted.number);
+        self.alignments.count_add(edit, wanted.number);
+        self.see_large(|large| large.edit(&list.area, edit, &wanted));
         if wanted.number == 0 {
             let held = demand::after_edit(&list.area, &after, list.base, edit, wanted.value);
             asked.demand(held, &buffers)?;
         }
-        Ok(wanted)
+        Ok((wanted, area))
     }
 }
 
-fn call_of(edit: &Edit) -> Call {
+pub fn call_of(edit: &Edit) -> Call {
     match edit {
         Edit::Add { .. } => Call::Add,
         Edit::AddAligned { .. } => Call::AddAligned,
@@ -81,7 +101,7 @@ fn call_of(edit: &Edit) -> Call {
     }
 }
 
-fn data_of<'a>(edit: &Edit<'a>) -> &'a [u8] {
+pub fn data_of<'a>(edit: &Edit<'a>) -> &'a [u8] {
     match *edit {
         Edit::Add { data, .. } | Edit::AddAligned { data, .. } => data,
         Edit::Void { .. } => &[],
@@ -96,7 +116,7 @@ fn numbers_of(edit: &Edit) -> String {
     }
 }
 
-fn by_model(area: &mut [u8], base: u64, edit: &Edit) -> Done {
+pub fn by_model(area: &mut [u8], base: u64, edit: &Edit) -> Done {
     match *edit {
         Edit::Add { tag, data, use_voids } => model::add(area, base, tag, data, use_voids),
         Edit::AddAligned { tag, data, exponent } => model::add_aligned(area, base, tag, data, exponent),
@@ -104,7 +124,7 @@ fn by_model(area: &mut [u8], base: u64, edit: &Edit) -> Done {
     }
 }
 
-fn by_library(area: &mut Lent, base: u64, edit: &Edit, data: &mut Lent) -> Done {
+pub fn by_library(area: &mut Lent, base: u64, edit: &Edit, data: &mut Lent) -> Done {
     match *edit {
         Edit::Add { tag, use_voids, .. } => library::add(area, base, tag, data, use_voids),
         Edit::AddAligned { tag, exponent, .. } => library::add_aligned(area, base, tag, data, exponent),

@@ -1,4 +1,4 @@
-//! The bench examples A to N of document 01, run on the model.
+//! The bench examples A to N of document 01, I and J as amended by document 02, request 7, run on the model.
 
 use crate::model::*;
 
@@ -137,16 +137,70 @@ fn h_relocate() {
 fn i_lengths_at_create() {
     assert_eq!(create(&mut [0; 24], BASE, true), refused(SHORT));
     assert_eq!(create(&mut [0; 25], BASE, true), ok(24));
+    assert_eq!(create(&mut [0; 65_535], BASE, true), ok(65_528));
     assert_eq!(create(&mut [0; 65_536], BASE, true), ok(65_536));
-    assert_eq!(create(&mut [0; 65_537], BASE, true), refused(AREA));
+}
+
+/// Lengths of which no buffer is made here: "65,537 and exponent 13 are now good".
+#[test]
+fn i_lengths_over_64_kib() {
+    for (len, total) in [(65_537, 65_536), (16_777_215, 16_777_208), (16_777_216, 16_777_216)] {
+        assert!(usable(len, BASE) && within_limits(len, BASE));
+        assert_eq!(round_down8(len as u128), total);
+    }
+    for len in [16_777_217, 16_777_224, 1 << 32, usize::MAX] {
+        assert!(!usable(len, BASE) && !within_limits(len, BASE));
+    }
+}
+
+/// The highest base of 16 MiB, and 8 bytes or one byte above it; the base of a target may be odd.
+#[test]
+fn i_lengths_at_the_end_of_the_addresses() {
+    let highest = (1 << 48) - 16_777_216;
+    assert!(usable(16_777_216, highest) && within_limits(16_777_216, highest));
+    assert!(!usable(16_777_216, highest + 8) && !within_limits(16_777_216, highest + 1));
+    assert!(!usable(16_777_215, highest + 1) && within_limits(16_777_215, highest + 1));
 }
 
 #[test]
 fn j_alignment_field() {
-    for (alignment, number) in [(2, SIZES), (3, 0), (12, 0), (13, SIZES)] {
+    for (alignment, number) in [(2, SIZES), (3, 0), (12, 0), (13, 0), (21, 0), (22, SIZES), (255, SIZES)] {
         let mut area = created(64);
         area[7] = alignment;
         assert_eq!(check(&resealed(area), BASE).number, number);
+    }
+}
+
+/// A byte of data at 2^21, which every alignment allows: 64 behind the base, it has a void of 24 before it;
+/// 2 MiB behind the base, there is no room for it.
+#[test]
+fn j_exponents() {
+    for (exponent, number) in [(2, ALIGN), (12, 0), (13, 0), (21, 0), (22, ALIGN), (23, ALIGN)] {
+        let mut area = vec![0xa5; 128];
+        let base = (1 << 21) - 64;
+        create(&mut area, base, true);
+        let value = if number == 0 { 64 } else { 0 };
+        assert_eq!(add_aligned(&mut area, base, 4, &[9], exponent), Done { number, value });
+        if number == 0 {
+            assert_eq!(area[24..56], with_zeros("00 00 00 08 18 00 00 00", 32));
+            assert_eq!((area[7], check(&area, base).used), (exponent as u8, 72));
+        }
+    }
+    assert_eq!(add_aligned(&mut created(128), 0, 4, &[9], 21), refused(ROOM));
+}
+
+/// A list of which 24 bytes are used, to a target base that lies 56 before an address like its own.
+#[test]
+fn j_relocated() {
+    for (alignment, number) in [(13, 0), (21, 0), (22, SIZES)] {
+        let mut area = created(64);
+        area[7] = alignment;
+        let area = resealed(area);
+        let value = if number == 0 { 56 } else { 0 };
+        let target_base = (5 << 21) + BASE - 56;
+        assert_eq!(relocate(&area, BASE, &mut [0xa5; 80], target_base), Done { number, value });
+        let short = if number == 0 { ROOM } else { SIZES };
+        assert_eq!(relocate(&area, BASE, &mut [0xa5; 79], target_base), refused(short));
     }
 }
 

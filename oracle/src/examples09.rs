@@ -117,8 +117,10 @@ fn bytes_behind_size_are_not_summed() {
 fn lengths_at_the_header() {
     assert_eq!(check(&new_16()[..15], BASE).number, SHORT);
     assert_eq!(check(&with_zeros(NEW_16, 65_536), BASE).number, 0);
-    assert_eq!(check(&with_zeros(NEW_16, 65_537), BASE).number, AREA);
     assert_eq!(check(&[], BASE).number, SHORT);
+    // 16 bytes that end at 2^48, and 8 behind it. What is longer than 65,536 is judged as in example I.
+    assert_eq!(check(&new_16(), (1 << 48) - 16).number, 0);
+    assert_eq!(check(&new_16(), (1 << 48) - 8).number, AREA);
 }
 
 #[test]
@@ -130,7 +132,7 @@ fn fields_of_the_header() {
     for hdr_size in [15, 17, 24] {
         assert_eq!(number(6, hdr_size), SIZES);
     }
-    for (alignment, wanted) in [(2, SIZES), (3, 0), (12, 0), (13, SIZES)] {
+    for (alignment, wanted) in [(2, SIZES), (3, 0), (12, 0), (13, 0), (21, 0), (22, SIZES)] {
         assert_eq!(number(7, alignment), wanted);
     }
     for (max_size, wanted) in [(24, SIZES), (32, 0), (60, SIZES), (72, SIZES)] {
@@ -229,11 +231,25 @@ fn order_of_refusals() {
 }
 
 #[test]
-fn a_full_list_cannot_be_converted() {
+fn a_list_of_64_kib_needs_more_to_be_converted() {
     // size and max_size 10000, one entry of ffe8 bytes.
     let text = "ff d0 6e 00 00 01 10 03 00 00 01 00 00 00 01 00 01 00 00 08 e8 ff 00 00";
     let area = summed(with_zeros(text, 65_536));
     assert_eq!(check(&area, 0).live, 1);
     assert_eq!(convert(&area, 0, &mut vec![0; 65_536], 0), refused(ROOM));
-    assert_eq!(convert(&area, 0, &mut vec![0; 65_537], 0), refused(TARGET));
+    assert_eq!(convert(&area, 0, &mut vec![0; 65_536], (1 << 48) - 65_535), refused(TARGET));
+}
+
+#[test]
+fn converted_with_alignment_13_and_21() {
+    // From 2^21 + 8 to 6 times 2^21, which is 24 behind the target base; size + 8 is 40. 22 is no alignment.
+    for (alignment, number, shift) in [(13, 0, 24), (21, 0, 24), (22, SIZES, 0)] {
+        let area = changed(with_entry(), 7, alignment);
+        let mut target = vec![0xa5; 64];
+        let target_base = (6 << 21) - 24;
+        assert_eq!(convert(&area, (1 << 21) + 8, &mut target, target_base), Done { number, value: shift });
+        assert_eq!(target[24 + 7] == alignment, number == 0);
+        let short = if number == 0 { ROOM } else { SIZES };
+        assert_eq!(convert(&area, (1 << 21) + 8, &mut target[..63], target_base), refused(short));
+    }
 }

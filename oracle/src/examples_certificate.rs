@@ -226,7 +226,7 @@ fn adds_carry_56_bytes() {
         let mut area = list(&[]);
         let shape = Done { number: SHAPE, value: 0 };
         assert_eq!(add(&mut area, BASE, CERTIFICATE_TAG, &vec![1; length], true), shape);
-        assert_eq!(add_aligned(&mut area, BASE, CERTIFICATE_TAG, &vec![1; length], 13), shape);
+        assert_eq!(add_aligned(&mut area, BASE, CERTIFICATE_TAG, &vec![1; length], 22), shape);
         assert_eq!(area, list(&[]));
     }
     // What they carry is not judged, and a second one may be added.

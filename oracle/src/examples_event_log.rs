@@ -59,10 +59,10 @@ fn other_tags_may_carry_less() {
 fn shape_comes_before_align_and_room() {
     let full = || list(0xfe, 3, 48, &[2, 0, 0, 8, 16]);
     assert_eq!(check(&full(), BASE).number, 0);
-    for (length, wanted, wanted_at_13) in [(3, SHAPE, SHAPE), (4, ROOM, ALIGN)] {
+    for (length, wanted, wanted_at_22) in [(3, SHAPE, SHAPE), (4, ROOM, ALIGN)] {
         assert_eq!(add(&mut full(), BASE, 5, &DATA[..length], true).number, wanted);
         assert_eq!(add_aligned(&mut full(), BASE, 5, &DATA[..length], 4).number, wanted);
-        assert_eq!(add_aligned(&mut full(), BASE, 5, &DATA[..length], 13).number, wanted_at_13);
+        assert_eq!(add_aligned(&mut full(), BASE, 5, &DATA[..length], 22).number, wanted_at_22);
     }
 }
 

@@ -184,7 +184,6 @@ fn refusals() {
     };
     refused(&list, BASE + 4, AREA);
     refused(&list, (1 << 48) - 56, AREA);
-    refused(&[0; 65_537], BASE, AREA);
     refused(&list[..23], BASE, SHORT);
     refused(&[], BASE, SHORT);
     refused(&with(&[(0, 0), (5, 0)]), BASE, SIGNATURE);

@@ -1,5 +1,6 @@
 //! Buffers lent to the library, with guard bytes before and behind them.
 
+use oracle::lists::MOST_LENT;
 use oracle::rng::Rng;
 use std::alloc::{alloc_zeroed, Layout};
 
@@ -68,11 +69,19 @@ impl Lent {
 pub struct Guards {
     pattern: Vec<u8>,
     turn: usize,
+    /// Whether buffers over 64 KiB are lent: "test programs keep their own buffers within 64 KiB", and only
+    /// the comparison of large lists does not.
+    is_large: bool,
 }
 
 impl Guards {
     pub fn new(seed: u64) -> Guards {
-        Guards { pattern: Rng::new(seed).bytes(GUARD + STARTS), turn: 0 }
+        Guards { pattern: Rng::new(seed).bytes(GUARD + STARTS), turn: 0, is_large: false }
+    }
+
+    /// For the comparison of large lists.
+    pub fn of_any_length(seed: u64) -> Guards {
+        Guards { is_large: true, ..Guards::new(seed) }
     }
 
     /// The next buffer starts at this one of the places.
@@ -82,6 +91,7 @@ impl Guards {
 
     /// A copy of `bytes` between guards.
     pub fn lend(&mut self, bytes: &[u8]) -> Lent {
+        assert!(self.is_large || bytes.len() <= MOST_LENT, "a buffer of {} bytes", bytes.len());
         self.turn = (self.turn + 1) % STARTS;
         let start = GUARD + self.turn;
         let mut held = Vec::with_capacity(start + bytes.len() + GUARD);

@@ -1,8 +1,9 @@
-//! The second implementation of document 01 and of document 02, requests 1 to 3, 5 and 6: the model of
+//! The second implementation of document 01 and of document 02, requests 1 to 3 and 5 to 7: the model of
 //! their jobs, the lists and device trees it is tried on, and what is demanded of a result said once more.
 //! Nothing here needs the library under test.
 
 pub mod add_lengths;
+pub mod alignments;
 pub mod causes;
 pub mod certificate;
 pub mod certificate_numbers;

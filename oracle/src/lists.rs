@@ -6,9 +6,13 @@ use crate::certificate_values;
 use crate::damage::spoil;
 use crate::lists09;
 use crate::lists_certificate;
-use crate::model::{self, align8, field, put_u32, Edition, ADDRESS_END, CERTIFICATE_TAG, LONGEST_AREA};
+use crate::model::{self, align8, field, put_u32, Edition, ADDRESS_END, CERTIFICATE_TAG, HIGHEST_ALIGNMENT};
 use crate::model_tidy;
 use crate::rng::Rng;
+
+/// "Test programs keep their own buffers within 64 KiB" (document 02, request 7): no buffer that is filled
+/// and lent in the comparison is longer. At greater lengths it lends zeros that the system has set.
+pub const MOST_LENT: usize = 65_536;
 
 /// A list as it is lent: the bytes of the area and the stated base address; and the edition that it
 /// was made by, which the bytes need not tell any more.
@@ -117,10 +121,10 @@ pub fn sum(bytes: &[u8]) -> u8 {
 
 // Sizes and addresses.
 
-/// A length for the area: mostly small, now and then at the limit.
+/// A length for the area: mostly small, now and then the longest.
 pub fn area_len(rng: &mut Rng) -> usize {
     let len = match rng.below(200) {
-        0 => rng.pick(&[65_520, 65_528, 65_535, 65_536, 65_536]),
+        0 => MOST_LENT as u64 - rng.pick(&[0, 0, 1, 8, 16]),
         1..=10 => rng.range(256, 2048),
         11..=20 => rng.range(0, 40),
         _ => rng.range(25, 256),
@@ -128,17 +132,24 @@ pub fn area_len(rng: &mut Rng) -> usize {
     len as usize
 }
 
-/// A base that makes an area of `len` bytes usable: low, high, anywhere, or the highest one.
+/// A base that makes an area of `len` bytes usable: low, high, anywhere, the highest one, or with a boundary
+/// of every alignment in the area.
 pub fn good_base(rng: &mut Rng, len: usize) -> u64 {
     let highest = (ADDRESS_END as u64 - len as u64) / 8 * 8;
-    match rng.below(8) {
+    match rng.below(10) {
         0 => 0,
         1 => 8,
         2 => highest,
         3 => highest - 8 * rng.below(512),
         4 | 5 => 0x1000,
+        6 | 7 => highest_boundary(rng) - 8 * rng.below(len as u64 / 8 + 1),
         _ => rng.below(highest / 8) * 8,
     }
+}
+
+/// An address that is a multiple of 2^alignment for every alignment, neither the first such nor the last.
+fn highest_boundary(rng: &mut Rng) -> u64 {
+    rng.range(1, (ADDRESS_END as u64 >> HIGHEST_ALIGNMENT) - 1) << HIGHEST_ALIGNMENT
 }
 
 // Whole lists.
@@ -179,16 +190,16 @@ fn some_data(rng: &mut Rng, area_len: usize) -> (u32, Vec<u8>) {
     (tag, rng.bytes(length as usize))
 }
 
-/// An exponent from 3 to 12, the small ones more often.
+/// An exponent that is allowed, the small ones more often.
 pub fn good_exponent(rng: &mut Rng) -> u32 {
-    let highest = rng.pick(&[4, 5, 6, 8, 12]);
-    rng.range(3, highest) as u32
+    let highest = rng.pick(&[4, 5, 6, 8, 12, HIGHEST_ALIGNMENT]);
+    rng.range(3, highest as u64) as u32
 }
 
 /// Relocates the list, where there is room for it.
 fn move_away(rng: &mut Rng, list: &mut List) {
-    let len = list.area.len() + rng.below(128) as usize;
-    let target_base = rng.below(1 << 20) + good_base(rng, LONGEST_AREA) / 2;
+    let len = (list.area.len() + rng.below(128) as usize).min(MOST_LENT);
+    let target_base = rng.below(1 << 20) + good_base(rng, MOST_LENT) / 2;
     let mut target = rng.bytes(len);
     let done = model::relocate(&list.area, list.base, &mut target, target_base);
     if done.number == 0 {
@@ -210,8 +221,8 @@ pub fn laid_out(rng: &mut Rng, edition: Edition, version: u8) -> List {
         fill_up(rng, &mut area, limit);
     }
     let used = area.len();
-    let total = used + spare(rng).min((LONGEST_AREA - used) / 8 * 8);
-    let len = total + rng.pick(&[0, 0, 1, 7, 8, 40]).min(LONGEST_AREA - total);
+    let total = used + spare(rng).min((MOST_LENT - used) / 8 * 8);
+    let len = total + rng.pick(&[0, 0, 1, 7, 8, 40]).min(MOST_LENT - total);
     area.extend(rng.bytes(len - used));
     put_u32(&mut area, field::USED_SIZE, used as u32);
     put_u32(&mut area, field::TOTAL_SIZE, total as u32);
@@ -261,7 +272,7 @@ pub fn alignment(rng: &mut Rng) -> u32 {
     if rng.once_in(2) {
         good_exponent(rng)
     } else {
-        rng.range(3, 12) as u32
+        rng.range(3, HIGHEST_ALIGNMENT as u64) as u32
     }
 }
 
@@ -356,5 +367,11 @@ mod tests {
             let (one, other) = (any(&mut Rng::new(seed)), any(&mut Rng::new(seed)));
             assert_eq!((one.base, one.area), (other.base, other.area));
         }
+    }
+
+    #[test]
+    fn no_list_is_longer_than_what_may_be_lent() {
+        let lengths = (0..5000).map(|seed| any(&mut Rng::new(seed)).area.len());
+        assert_eq!(lengths.max(), Some(MOST_LENT));
     }
 }

@@ -7,7 +7,8 @@ use crate::model::{field, put_u32, Edition, CERTIFICATE_TAG};
 use crate::model_certificate::LENGTH;
 use crate::rng::Rng;
 
-pub const BASE: u64 = 0x1000;
+/// 4096 below a boundary of every alignment.
+pub const BASE: u64 = 0x1f_f000;
 pub const HAS_CHECKSUM: u32 = 1;
 
 /// An entry with this data; the rest of its header and its padding are not 0.

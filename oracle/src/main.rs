@@ -1,7 +1,8 @@
-//! Compares libtransfer_list.a with the model of document 01 and of document 02, requests 1 to 3, 5 and 6,
-//! on many lists and device trees.
+//! Compares libtransfer_list.a with the model of document 01 and of document 02, requests 1 to 3 and 5 to 7,
+//! on many lists and device trees; and on large ones.
 //!
 //! `oracle [LISTS [SEED]]`; the list after that of seed S is the one of seed S + 1.
+//! `oracle large [SEED [PART]]`; all parts, or this one alone.
 
 mod calls09;
 mod calls_fdt;
@@ -22,6 +23,18 @@ mod edits;
 mod huge;
 mod huge09;
 mod huge_fdt;
+mod large;
+mod large_alignments;
+mod large_entries;
+mod large_fdt;
+mod large_full;
+mod large_lengths;
+mod large_lists;
+mod large_moves;
+mod large_numbers;
+mod large_refusals;
+mod large_rows;
+mod large_sights;
 mod lent;
 mod library;
 mod relocations;
@@ -38,8 +51,10 @@ use std::process::ExitCode;
 const LISTS: u64 = 200_000;
 const SEED: u64 = 1;
 
+const USAGE: &str = "usage: oracle [LISTS [SEED]] or oracle large [SEED [PART]]";
+
 fn main() -> ExitCode {
-    match arguments().and_then(|(lists, seed)| run(lists, seed)) {
+    match run_as_asked() {
         Ok(()) => ExitCode::SUCCESS,
         Err(report) => {
             println!("{report}");
@@ -48,21 +63,22 @@ fn main() -> ExitCode {
     }
 }
 
-fn arguments() -> Result<(u64, u64), String> {
-    let mut given = env::args().skip(1);
-    let lists = number(given.next(), LISTS)?;
-    let seed = number(given.next(), SEED)?;
-    match given.next() {
-        None => Ok((lists, seed)),
-        Some(_) => Err("usage: oracle [LISTS [SEED]]".to_string()),
+fn run_as_asked() -> Result<(), String> {
+    let given: Vec<String> = env::args().skip(1).collect();
+    let given: Vec<&str> = given.iter().map(String::as_str).collect();
+    match given[..] {
+        ["large"] => large::run(SEED, None),
+        ["large", seed] => large::run(number(seed)?, None),
+        ["large", seed, part] => large::run(number(seed)?, Some(part)),
+        [] => run(LISTS, SEED),
+        [lists] => run(number(lists)?, SEED),
+        [lists, seed] => run(number(lists)?, number(seed)?),
+        _ => Err(USAGE.to_string()),
     }
 }
 
-fn number(given: Option<String>, default: u64) -> Result<u64, String> {
-    match given {
-        None => Ok(default),
-        Some(text) => text.parse().map_err(|_| format!("{text} is no number")),
-    }
+fn number(text: &str) -> Result<u64, String> {
+    text.parse().map_err(|_| format!("{text} is no number\n{USAGE}"))
 }
 
 fn run(lists: u64, seed: u64) -> Result<(), String> {
@@ -71,8 +87,8 @@ fn run(lists: u64, seed: u64) -> Result<(), String> {
     for index in 0..lists {
         one_list(&mut bench, seed.wrapping_add(index)).map_err(|report| format!("list {index}: {report}"))?;
     }
-    // The edges have their runs of voids on purpose; these were met by chance.
-    let runs = std::mem::take(&mut bench.runs);
+    // The edges have their runs of voids and their alignments on purpose; these were met by chance.
+    let (runs, alignments) = (std::mem::take(&mut bench.runs), std::mem::take(&mut bench.alignments));
     bench.edges09()?;
     bench.edges_event_log()?;
     bench.edges_tidy()?;
@@ -81,12 +97,11 @@ fn run(lists: u64, seed: u64) -> Result<(), String> {
     bench.edges_added_certificate()?;
     bench.edges_reading(seed)?;
     bench.huge_lengths()?;
-    bench.huge_lengths09()?;
     bench.device_trees(seed)?;
-    println!("{}\n{}", bench.tally.table(), bench.event_logs.table());
+    println!("{}\n{}\n{}", bench.tally.table(), alignments.table(), bench.event_logs.table());
     println!("{}\n{}\n{}", bench.added_certificates.table(), runs.table(), bench.sights.table());
     println!("{}\n{}\n{}", bench.fdt_sights.table(), bench.fdt_finds.table(), bench.fdt_breaks.table());
-    let adds = [bench.event_logs.unseen(), bench.added_certificates.unseen()].concat();
+    let adds = [alignments.unseen(), bench.event_logs.unseen(), bench.added_certificates.unseen()].concat();
     let trees = [bench.fdt_sights.unseen(), bench.fdt_finds.unseen(), bench.fdt_breaks.unseen()].concat();
     let unseen = [bench.tally.unseen(), adds, runs.unseen(), bench.sights.unseen(), trees].concat();
     if !unseen.is_empty() {

@@ -1,7 +1,7 @@
 //! The seven jobs of document 01, each sentence written down plainly; the tag table as document 02,
-//! requests 2 and 5, amends it. The checks 1 to 8, check and find serve lists of edition 0.9 too (document
-//! 02, request 1); `model09` has what is theirs alone, `model_tidy` the job of request 3, and
-//! `model_certificate` that of request 5.
+//! requests 2 and 5, amends it, the longest area and the highest alignment as request 7 does. The checks 1
+//! to 8, check and find serve lists of edition 0.9 too (document 02, request 1); `model09` has what is
+//! theirs alone, `model_tidy` the job of request 3, and `model_certificate` that of request 5.
 //!
 //! "All sums here are whole-number sums; none wraps": every sum is made in u128, where the largest
 //! address and the largest length together stay far below the limit.
@@ -90,7 +90,14 @@ pub mod field {
 }
 
 pub const ADDRESS_END: u128 = 1 << 48;
-pub const LONGEST_AREA: usize = 65_536;
+
+// Document 02, request 7: "L and the target length may be up to 16 MiB (16,777,216), and alignment up to
+// 21. AREA, SIZES, ALIGN and TARGET change accordingly."
+
+/// The most bytes of an area (AREA) and of a target (TARGET).
+pub const LONGEST_AREA: usize = 16_777_216;
+/// The highest alignment of a list (SIZES) and the highest exponent of an aligned add (ALIGN).
+pub const HIGHEST_ALIGNMENT: u32 = 21;
 
 /// The edition that a list is laid out by. The first sixteen bytes hold the same fields in both;
 /// 0.9 calls used_size `size` and total_size `max_size`, and has no more than these.
@@ -133,7 +140,7 @@ pub fn align8(x: u128) -> u128 {
     x.div_ceil(8) * 8
 }
 
-fn round_down8(x: u128) -> u128 {
+pub(crate) fn round_down8(x: u128) -> u128 {
     x / 8 * 8
 }
 
@@ -164,15 +171,21 @@ pub(crate) fn refuse_if(refused: bool, number: u32) -> Result<(), u32> {
     }
 }
 
-/// "An area is usable when its base is a multiple of 8, base + L is at most 2^48, and L is at most
-/// 65,536."
-fn usable(len: usize, base: u64) -> bool {
+/// "An area is usable when its base is a multiple of 8, base + L is at most 2^48, and L is at most"
+/// 16,777,216, as amended by request 7.
+pub(crate) fn usable(len: usize, base: u64) -> bool {
     base.is_multiple_of(8) && within_limits(len, base)
 }
 
 /// The part of the rule above that the target of a relocation or of a conversion must keep too.
 pub(crate) fn within_limits(len: usize, base: u64) -> bool {
     base as u128 + len as u128 <= ADDRESS_END && len <= LONGEST_AREA
+}
+
+/// SIZES: "alignment is outside 3 to" 21, and ALIGN: "aligned add with exponent outside 3 to" 21, as amended
+/// by request 7, read the other way round.
+pub(crate) fn alignment_holds(exponent: u32) -> bool {
+    (3..=HIGHEST_ALIGNMENT).contains(&exponent)
 }
 
 /// The fields of the list's header that both editions have.
@@ -214,7 +227,7 @@ impl Header {
             _ => self.hdr_size >= least,
         };
         hdr_size_holds
-            && (3..=12).contains(&self.alignment)
+            && alignment_holds(self.alignment as u32)
             && self.used_size.is_multiple_of(8)
             && self.total_size.is_multiple_of(8)
             && self.used_size >= self.first_place()
@@ -544,7 +557,7 @@ fn try_add_aligned(area: &mut [u8], base: u64, tag: u32, data: &[u8], exponent: 
     let header = List::open_to_edit(Edition::Current, area, base)?.header;
     check_new_tag(tag)?;
     check_shape(tag, data)?;
-    refuse_if(!(3..=12).contains(&exponent), ALIGN)?;
+    refuse_if(!alignment_holds(exponent), ALIGN)?;
     let padding = padding_void(base, header.used_size, exponent);
     let place = header.used_size + padding.map_or(0, cover);
     let used = place + cover(data.len() as u128);

@@ -24,9 +24,9 @@ fn try_convert(area: &[u8], base: u64, target: &mut [u8], target_base: u64) -> R
     let header = List::open_to_edit(Edition::E09, area, base)?.header;
     // "TARGET and ROOM apply as in relocation, with used being size + 8."
     refuse_if(!within_limits(target.len(), target_base), model::TARGET)?;
-    let shift = new_base(base, target_base, header.alignment) - target_base;
+    let shift = shift(base, target_base, header.alignment);
     let used = header.used_size + 8;
-    refuse_if(shift as u128 + used > target.len() as u128, model::ROOM)?;
+    refuse_if(shift + used > target.len() as u128, model::ROOM)?;
     // "Other target bytes are 0."
     target.fill(0);
     let result = &mut target[shift as usize..];
@@ -38,13 +38,32 @@ fn try_convert(area: &[u8], base: u64, target: &mut [u8], target_base: u64) -> R
     // "Entry bytes are copied as they stand": those from 16 to size, 8 further on.
     result[24..used as usize].copy_from_slice(&area[16..header.used_size as usize]);
     model::put_checksum(result);
-    Ok(shift as u128)
+    Ok(shift)
 }
 
-/// "The lowest address from the target base on that equals old base minus 8 modulo 2^alignment",
-/// looked for one by one. The old base may be 0, so 8 is added to the other side. TARGET has passed,
-/// so no sum wraps.
-fn new_base(base: u64, target_base: u64, alignment: u8) -> u64 {
-    let boundary = 1 << alignment;
-    (target_base..).find(|address| (address + 8) % boundary == base % boundary).unwrap()
+/// From the target base to "the lowest address from the target base on that equals old base minus 8 modulo
+/// 2^alignment". The old base may be 0, so the difference may be below 0.
+fn shift(base: u64, target_base: u64, alignment: u8) -> u128 {
+    let difference = base as i128 - 8 - target_base as i128;
+    difference.rem_euclid(1 << alignment) as u128
+}
+
+#[cfg(test)]
+mod tests {
+    use super::*;
+
+    /// The same address looked for one by one, with 8 added to the other side.
+    #[test]
+    fn the_shift_is_the_one_that_a_search_finds() {
+        for (base, target_base) in
+            [(0, 0), (0, 7), (8, 0), (8, 0x1001), (0x1000, 0x2008), (0x7_fff8, 0x3f_fff9)]
+        {
+            for alignment in 3..=model::HIGHEST_ALIGNMENT as u8 {
+                let boundary = 1 << alignment;
+                let is_like = |address: &u64| (address + 8) % boundary == base % boundary;
+                let found = (target_base..).find(is_like).unwrap();
+                assert_eq!(shift(base, target_base, alignment), found as u128 - target_base as u128);
+            }
+        }
+    }
 }

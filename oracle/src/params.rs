@@ -2,12 +2,12 @@
 //! past the last, lengths at the edges of its voids and its room, targets at the edges of the
 //! address space.
 
-use crate::lists::{self, good_exponent, List};
-use crate::model::{self, field, ADDRESS_END, CERTIFICATE_TAG, EVENT_LOG_TAG};
+use crate::lists::{self, good_exponent, List, MOST_LENT};
+use crate::model::{self, field, ADDRESS_END, CERTIFICATE_TAG, EVENT_LOG_TAG, HIGHEST_ALIGNMENT};
 use crate::rng::Rng;
 
-/// No data longer than this is lent; it is more than any area holds.
-const LONGEST_DATA: i64 = 70_000;
+/// No data and no target longer than this is lent.
+const LONGEST: i64 = MOST_LENT as i64;
 
 /// What stands in a list's bytes, sound or not; the choices are made around these numbers.
 pub struct Facts {
@@ -40,6 +40,11 @@ impl Facts {
     /// What a conversion moves: the list begins 8 before its old base, and has 8 bytes more.
     pub fn for_conversion(self) -> Facts {
         Facts { base: self.base.wrapping_sub(8), used: self.used + 8, ..self }
+    }
+
+    /// 2^alignment, where that is allowed.
+    fn boundary(&self) -> u64 {
+        1 << self.alignment.min(HIGHEST_ALIGNMENT)
     }
 
     fn count(&self, tag: u32) -> u64 {
@@ -126,7 +131,7 @@ pub fn data_len(rng: &mut Rng, facts: &Facts, tag: u32, padding: i64) -> usize {
         _ => rng.below(40) as i64,
     };
     match length {
-        0..=LONGEST_DATA => length as usize,
+        0..=LONGEST => length as usize,
         _ => rng.below(20) as usize,
     }
 }
@@ -135,8 +140,9 @@ pub fn data_len(rng: &mut Rng, facts: &Facts, tag: u32, padding: i64) -> usize {
 /// bits or taken modulo 32 or 64.
 pub fn exponent(rng: &mut Rng) -> u32 {
     match rng.below(8) {
-        0 => rng.pick(&[0, 1, 2, 13, 14, 31, 32, 35, 63, 64, 67, 255, 259, 1 << 31, u32::MAX]),
-        1 => rng.pick(&[3, 12]),
+        0 => rng.pick(&[0, 1, 2, 22, 23, 31, 32, 35, 63, 64, 67, 255, 259, 1 << 31, u32::MAX]),
+        1 => rng.pick(&[3, 12, 13, HIGHEST_ALIGNMENT]),
+        2 | 3 => rng.range(3, HIGHEST_ALIGNMENT as u64) as u32,
         _ => good_exponent(rng),
     }
 }
@@ -162,14 +168,14 @@ pub fn target(rng: &mut Rng, facts: &Facts) -> (usize, u64) {
     }
 }
 
-/// A target whose length is at the limit of TARGET or beside it.
+/// A target of the longest buffer, or a little less.
 fn full_target(rng: &mut Rng, facts: &Facts) -> (usize, u64) {
-    (rng.pick(&[65_535, 65_536, 65_536, 65_537]), low_base(rng, facts))
+    (MOST_LENT - rng.pick(&[0, 0, 1, 8]), low_base(rng, facts))
 }
 
 /// A target that ends at the end of the address space or beside it, or whose end wraps in 64 bits.
 fn high_target(rng: &mut Rng, facts: &Facts) -> (usize, u64) {
-    let shift = rng.below(1 << facts.alignment.min(12));
+    let shift = rng.below(facts.boundary());
     let len = fitting_len(rng, facts, shift);
     let end = ADDRESS_END as u64 - len as u64;
     let base = match rng.below(8) {
@@ -185,13 +191,13 @@ fn high_target(rng: &mut Rng, facts: &Facts) -> (usize, u64) {
 
 /// The highest address at or below `end` to which the list could move without a shift.
 fn highest_without_shift(facts: &Facts, end: u64) -> u64 {
-    end - end.wrapping_sub(facts.base) % (1 << facts.alignment.min(12))
+    end - end.wrapping_sub(facts.base) % facts.boundary()
 }
 
 /// A target whose length is close to shift + used.
 fn fitting_target(rng: &mut Rng, facts: &Facts) -> (usize, u64) {
     let base = low_base(rng, facts);
-    let shift = facts.base.wrapping_sub(base) % (1 << facts.alignment.min(12));
+    let shift = facts.base.wrapping_sub(base) % facts.boundary();
     (fitting_len(rng, facts, shift), base)
 }
 
@@ -204,19 +210,21 @@ fn fitting_len(rng: &mut Rng, facts: &Facts, shift: u64) -> usize {
     };
     let len = around + rng.pick(&[-9, -8, -1, 0, 1, 7, 8, 100]);
     match len {
-        0..=LONGEST_DATA => len as usize,
+        0..=LONGEST => len as usize,
         _ => rng.below(256) as usize,
     }
 }
 
-/// A target base well inside the address space, odd ones and the list's own among them.
+/// A target base well inside the address space, odd ones and the list's own among them, and one to which
+/// the list moves with a small shift, however high its alignment.
 fn low_base(rng: &mut Rng, facts: &Facts) -> u64 {
-    match rng.below(6) {
+    match rng.below(7) {
         0 => rng.below(16),
         1 => facts.base % (1 << 47),
         2 => facts.base % (1 << 47) + rng.below(64),
-        3 => rng.below(1 << 47) / 4096 * 4096,
-        4 => rng.below(1 << 47) / 8 * 8,
+        3 => facts.base % (1 << 46) + (rng.range(1, 1 << 20) << HIGHEST_ALIGNMENT) - rng.below(64),
+        4 => rng.below(1 << 47) / 4096 * 4096,
+        5 => rng.below(1 << 47) / 8 * 8,
         _ => rng.below(1 << 47),
     }
 }

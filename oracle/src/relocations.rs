@@ -1,10 +1,11 @@
 //! The comparison of relocate.
 
 use crate::compare::{untouched, Asked, Bench, Buffer, Times};
+use crate::lent::Lent;
 use crate::library;
 use oracle::demand::{self, Relocation};
 use oracle::lists::List;
-use oracle::model;
+use oracle::model::{self, Done};
 use oracle::params::{self, Facts};
 use oracle::rng::Rng;
 use oracle::tally::Call;
@@ -25,6 +26,12 @@ impl Bench {
     }
 
     pub fn relocate(&mut self, list: &List, bytes: &[u8], target_base: u64) -> Result<(), String> {
+        self.relocated(list, bytes, target_base)?;
+        Ok(())
+    }
+
+    /// The same; the answer that both gave, and the target as the library left it.
+    pub fn relocated(&mut self, list: &List, bytes: &[u8], target_base: u64) -> Result<(Done, Lent), String> {
         let mut area = self.guards.lend(&list.area);
         let mut target = self.guards.lend(bytes);
         let mut after = bytes.to_vec();
@@ -37,11 +44,13 @@ impl Bench {
             Buffer { name: "target", before: bytes, wanted: &after, lent: &target },
         ];
         self.judge(&asked, wanted, given, &buffers)?;
+        self.alignments.count_move(Call::Relocate, &list.area, wanted.number);
+        self.see_large(|large| large.moved(Call::Relocate, &wanted));
         if wanted.number == 0 {
             let (area, base, shift) = (&list.area[..], list.base, wanted.value);
             let moved = Relocation { area, base, target: &after, target_base, shift };
             asked.demand(demand::after_relocation(&moved), &buffers)?;
         }
-        Ok(())
+        Ok((wanted, target))
     }
 }

@@ -1,6 +1,7 @@
 //! The comparison of tidy, by itself, twice over, and with the adds that it makes room for.
 
 use crate::compare::{hex, untouched, Asked, Bench, Buffer};
+use crate::lent::Lent;
 use crate::library;
 use oracle::demand::Edit;
 use oracle::demand_tidy;
@@ -13,6 +14,18 @@ use oracle::tally::Call;
 impl Bench {
     /// Tidies a list; the answer that both gave.
     pub fn tidy(&mut self, list: &List) -> Result<Done, String> {
+        Ok(self.tidied(list)?.0)
+    }
+
+    /// The same; the list is carried on as the library left it.
+    pub fn tidy_on(&mut self, list: &mut List) -> Result<Done, String> {
+        let (done, mut area) = self.tidied(list)?;
+        list.area = area.bytes().to_vec();
+        Ok(done)
+    }
+
+    /// The answer, and the area as the library left it.
+    fn tidied(&mut self, list: &List) -> Result<(Done, Lent), String> {
         let mut area = self.guards.lend(&list.area);
         let mut after = list.area.clone();
         let wanted = model_tidy::tidy(&mut after, list.base);
@@ -37,7 +50,7 @@ impl Bench {
             self.adds_around(list, &tidied)?;
             self.runs.count(&list.area, &tidied.area);
         }
-        Ok(given)
+        Ok((given, area))
     }
 
     /// "Tidying twice is the same as once": the same answer, and no byte changes.

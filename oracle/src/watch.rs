@@ -17,6 +17,8 @@ const PATIENCE: Duration = Duration::from_secs(20);
 static CALLS: AtomicU64 = AtomicU64::new(0);
 static CALL: AtomicUsize = AtomicUsize::new(0);
 static SEED: AtomicU64 = AtomicU64::new(0);
+/// What a run on large lists has its turn with; empty in a run on many lists.
+static PART: Mutex<String> = Mutex::new(String::new());
 /// What was lent last to a call for device trees.
 static LENT: Mutex<[Vec<u8>; 3]> = Mutex::new([Vec::new(), Vec::new(), Vec::new()]);
 /// No more than these bytes of a buffer are kept.
@@ -25,6 +27,11 @@ const KEPT: usize = 1 << 16;
 /// Notes that the list of `seed` has its turn.
 pub fn list(seed: u64) {
     SEED.store(seed, Relaxed);
+}
+
+/// Notes which part of a run on large lists has its turn, and how to make it once more.
+pub fn part(text: &str) {
+    *PART.lock().unwrap() = text.to_string();
 }
 
 /// Notes that the library is about to be called.
@@ -59,6 +66,11 @@ pub fn start() {
 
 fn give_up() -> ! {
     let call = Call::ALL[CALL.load(Relaxed)];
+    let part = PART.lock().unwrap();
+    if !part.is_empty() {
+        println!("{} does not return\n{part}", call.name());
+        exit(1);
+    }
     if matches!(call, Call::FdtCheck | Call::FdtFind) {
         let [data, path, name] = &*LENT.lock().unwrap();
         println!("{} does not return", call.name());

@@ -1,11 +1,13 @@
 -- Document 01, "Bench examples": A* to J*, every part of each, as the rows of one table. The claim `examples` is that in each row
--- what the rules compute is what the paper says: the answer's numbers and every lent byte afterwards (of 65,536 the first 24).
+-- what the rules compute is what the paper says: the answer's numbers and every lent byte afterwards (of 65,536 and 65,537 the first 24).
+-- I and J stand as amended by request 7; each of its two ends, 16,777,216 and 16,777,217 bytes, has a row with what AREA's test says of it.
 use mathlib.Core.Path.{_≡_, refl}
 use Prim.Native.Nat.{ℕ}
-use mathlib.Core.Bool.{true, false}
+use mathlib.Core.Bool.{true, false, cond}
 use mathlib.Core.List.{List, [], _∷_, _++_, map}
 use lib.ListN.{take, replicate}
 use Rattle.wire.specs.Bytes.{field, leBytes, xor, splice}
+use Rattle.rules.specs.declared.Refusal.the-variants.{Area}
 use Rattle.rules.specs.declared.CheckAnswer.{CheckAnswer}
 use Rattle.rules.specs.declared.DoneAnswer.{DoneAnswer}
 use Rattle.rules.specs.Header.{headerOf, headerBytes, freshHeader}
@@ -22,6 +24,7 @@ use Rattle.rules.specs.Entries.{
 }
 use Rattle.rules.specs.Checksum.{checksumHolds, freshChecksum, seal}
 use Rattle.rules.specs.Tags.{tagTable, breaksTable}
+use Rattle.rules.specs.Refusals.{numberOf, refusesArea}
 use Rattle.rules.specs.Check.{fieldsRefusal, headerRefusal, checksOf, check, checkAnswer}
 use Rattle.rules.specs.Outcome.{Outcome, answer, bytesAfter, doneAnswer}
 use Rattle.rules.specs.Create.{freshList, create}
@@ -199,7 +202,7 @@ areaI25 =
     ∷ 0x01 ∷ 0x00 ∷ 0x00 ∷ 0x00 ∷ 0x00 ∷ 0x00 ∷ 0x00 ∷ 0x00
     ∷ replicate 1 0
 
--- I: the header of a new list of 65,536 bytes
+-- I: the header of a new list of 65,536 bytes, and of one more
 abbrev headerI : List ℕ
 headerI =
     0x0b ∷ 0xb1 ∷ 0x0f ∷ 0x4a ∷ 0xfd ∷ 0x01 ∷ 0x18 ∷ 0x03
@@ -207,26 +210,10 @@ headerI =
     ∷ 0x01 ∷ 0x00 ∷ 0x00 ∷ 0x00 ∷ 0x00 ∷ 0x00 ∷ 0x00 ∷ 0x00
     ∷ []
 
--- J: alignment field 2, 13 and 12, the checksum right
-abbrev areaJ2 : List ℕ
-areaJ2 =
-    0x0b ∷ 0xb1 ∷ 0x0f ∷ 0x4a ∷ 0xbd ∷ 0x01 ∷ 0x18 ∷ 0x02
-    ∷ 0x18 ∷ 0x00 ∷ 0x00 ∷ 0x00 ∷ 0x40 ∷ 0x00 ∷ 0x00 ∷ 0x00
-    ∷ 0x01 ∷ 0x00 ∷ 0x00 ∷ 0x00 ∷ 0x00 ∷ 0x00 ∷ 0x00 ∷ 0x00
-    ∷ replicate 40 0
-
--- J: alignment field 13
-abbrev areaJ13 : List ℕ
-areaJ13 =
-    0x0b ∷ 0xb1 ∷ 0x0f ∷ 0x4a ∷ 0xb2 ∷ 0x01 ∷ 0x18 ∷ 0x0d
-    ∷ 0x18 ∷ 0x00 ∷ 0x00 ∷ 0x00 ∷ 0x40 ∷ 0x00 ∷ 0x00 ∷ 0x00
-    ∷ 0x01 ∷ 0x00 ∷ 0x00 ∷ 0x00 ∷ 0x00 ∷ 0x00 ∷ 0x00 ∷ 0x00
-    ∷ replicate 40 0
-
--- J: alignment field 12
-abbrev areaJ12 : List ℕ
-areaJ12 =
-    0x0b ∷ 0xb1 ∷ 0x0f ∷ 0x4a ∷ 0xb3 ∷ 0x01 ∷ 0x18 ∷ 0x0c
+-- J: a new list of 64 bytes with another alignment field and the checksum byte that is right for it
+abbrev areaJ : ℕ → ℕ → List ℕ
+areaJ alignment checksum =
+    0x0b ∷ 0xb1 ∷ 0x0f ∷ 0x4a ∷ checksum ∷ 0x01 ∷ 0x18 ∷ alignment
     ∷ 0x18 ∷ 0x00 ∷ 0x00 ∷ 0x00 ∷ 0x40 ∷ 0x00 ∷ 0x00 ∷ 0x00
     ∷ 0x01 ∷ 0x00 ∷ 0x00 ∷ 0x00 ∷ 0x00 ∷ 0x00 ∷ 0x00 ∷ 0x00
     ∷ replicate 40 0
@@ -260,6 +247,10 @@ checked a =
       numbers = n .number ∷ n .version ∷ n .used ∷ n .total ∷ n .alignment ∷ n .live ∷ n .voids ∷ [];
       bytes = a;
     }
+
+-- of AREA's test on so many bytes at 0x1000: its number, or 0 where it lets them pass
+abbrev judged : ℕ → Shown
+judged len = record { numbers = cond (refusesArea 0x1000 len) (numberOf Area) 0 ∷ []; bytes = [] }
 
 -- only the first n bytes, where the paper gives no more
 abbrev first : ℕ → Shown → Shown
@@ -311,16 +302,20 @@ table =
     ∷ (shownBy (toRelocate (replicate 200 0xff) 0x2008) areaG6 is shows 0 56 targetH200)
     ∷ (shownBy (toRelocate (replicate 128 0xff) 0x2008) areaG6 is shows 0 56 targetH128)
     ∷ (shownBy (toRelocate (replicate 127 0xff) 0x2008) areaG6 is shows 14 0 (replicate 127 0xff))
-    -- I: lengths 24, 25, 65,536 and 65,537
+    -- I: lengths 24, 25, 65,536 and 65,537; of 16,777,216 and 16,777,217 the test
     ∷ (created 24 is shows 2 0 (replicate 24 0xff))
     ∷ (created 25 is shows 0 24 areaI25)
     ∷ (first 24 (created 65536) is shows 0 65536 headerI)
-    ∷ (created 65537 is shows 1 0 (replicate 65537 0xff))
-    -- J: alignment fields 2 and 13 are SIZES, 3 and 12 pass
-    ∷ (checked areaJ2 is record { numbers = 6 ∷ replicate 6 0; bytes = areaJ2 })
-    ∷ (checked areaJ13 is record { numbers = 6 ∷ replicate 6 0; bytes = areaJ13 })
+    ∷ (first 24 (created 65537) is shows 0 65536 headerI)
+    ∷ (judged 16777216 is record { numbers = 0 ∷ []; bytes = [] })
+    ∷ (judged 16777217 is record { numbers = 1 ∷ []; bytes = [] })
+    -- J: alignment fields 2 and 22 are SIZES; 3, 12, 13 and 21 pass
+    ∷ (checked (areaJ 2 0xbd) is record { numbers = 6 ∷ replicate 6 0; bytes = areaJ 2 0xbd })
+    ∷ (checked (areaJ 22 0xa9) is record { numbers = 6 ∷ replicate 6 0; bytes = areaJ 22 0xa9 })
     ∷ (checked areaA is record { numbers = 0 ∷ 1 ∷ 24 ∷ 64 ∷ 3 ∷ 0 ∷ 0 ∷ []; bytes = areaA })
-    ∷ (checked areaJ12 is record { numbers = 0 ∷ 1 ∷ 24 ∷ 64 ∷ 12 ∷ 0 ∷ 0 ∷ []; bytes = areaJ12 })
+    ∷ (checked (areaJ 12 0xb3) is record { numbers = 0 ∷ 1 ∷ 24 ∷ 64 ∷ 12 ∷ 0 ∷ 0 ∷ []; bytes = areaJ 12 0xb3 })
+    ∷ (checked (areaJ 13 0xb2) is record { numbers = 0 ∷ 1 ∷ 24 ∷ 64 ∷ 13 ∷ 0 ∷ 0 ∷ []; bytes = areaJ 13 0xb2 })
+    ∷ (checked (areaJ 21 0xaa) is record { numbers = 0 ∷ 1 ∷ 24 ∷ 64 ∷ 21 ∷ 0 ∷ 0 ∷ []; bytes = areaJ 21 0xaa })
     ∷ []
 
 -- the claim

@@ -68,12 +68,13 @@ refusesVersion h = eqb (h .version) 0
 abbrev pub refusesReadonly : Bool → Header → Bool
 refusesReadonly editing h = editing && ltb currentVersion (h .version)
 
--- an alignment is outside 3 to 12
+-- an alignment is outside 3 to 21, as amended by request 7
 abbrev pub outsideAlignment : ℕ → Bool
 outsideAlignment a = ltb a leastAlignment || ltb maxAlignment a
 
 -- 6: hdr_size is not 24 (version 1) or is under 24 (above), 24 being the edition's header size (as amended by request 1, 16 in edition
--- 0.9); alignment is outside 3 to 12; used or total is no multiple of 8; used is under align8(hdr_size); used exceeds total; total exceeds L
+-- 0.9); alignment is outside 3 to 21 (as amended by request 7); used or total is no multiple of 8; used is under align8(hdr_size); used
+-- exceeds total; total exceeds L
 abbrev pub refusesSizes : Edition → Header → ℕ → Bool
 refusesSizes ed h len =
     wrongHeaderSize (h .version) (ed .headerSize) (h .«hdr_size»)
@@ -95,10 +96,10 @@ refusesTag tag = eqb tag 0 || ltb 0xffffff tag
 abbrev pub refusesTagAdd : ℕ → Bool
 refusesTagAdd tag = refusesTag tag || leb 0x800000 tag && leb tag 0xffefff
 
--- 11: aligned add with exponent outside 3 to 12
+-- 11: aligned add with exponent outside 3 to 21, as amended by request 7
 abbrev pub refusesAlign : ℕ → Bool
 refusesAlign exponent = outsideAlignment exponent
 
--- 12: target base + target length exceeds 2^48, or target length exceeds 65,536
+-- 12: target base + target length exceeds 2^48, or target length exceeds 16,777,216, as amended by request 7
 abbrev pub refusesTarget : ℕ → ℕ → Bool
 refusesTarget base len = ltb maxAddress (base + len) || ltb maxLength len

@@ -9,10 +9,10 @@ ghost use Rattle.rules.specs.Find.{findAnswer};
 ghost use Rattle.rules.specs.Outcome.{doneAnswer};
 
 // The longest area and the longest target, in bytes.
-pub const MAX_LENGTH: usize = 65536;
+pub const MAX_LENGTH: usize = 16777216;
 
 // The largest alignment, as a power of two's exponent.
-pub const MAX_ALIGNMENT: u8 = 12;
+pub const MAX_ALIGNMENT: u8 = 21;
 
 // No area reaches above this address.
 pub const MAX_ADDRESS: u64 = 0x1_0000_0000_0000;

@@ -1,6 +1,6 @@
 // Runs the paper's examples A to N, and examples of edition 0.9, of the event log's length, of tidying, of the checksum's exclusive or, of
-// the test certificate and of the device tree, on real bytes and prints what the functions answer and leave; the file stdout holds what the
-// papers' rules give.
+// the test certificate, of the device tree and of alignments up to 21, on real bytes and prints what the functions answer and leave; the
+// file stdout holds what the papers' rules give. No buffer is over 64 KiB, so that I's 65,537 bytes are left out.
 // A line: the example, the call, the answer's numbers, of a reading its 64 bits, and the bytes: of a find the data, of create, an edit and
 // a certificate the whole area or target, of two large areas the first 24 bytes; of the exclusive or the start, and the results over 0, 1,
 // 2 .. bytes from there.
@@ -157,7 +157,7 @@ fn show_first(example: &[u8], d: Done, bytes: &[u8]) {
     }
 }
 
-// Create with 24, 25, 65,536 and 65,537 bytes. Of the large ones the first 24 bytes are shown.
+// Create with 24, 25 and 65,536 bytes. Of the large one the first 24 bytes are shown.
 fn example_i() {
     let mut short = [0xffu8; 24];
     let refused = create::create(&mut short, 0x1000, true);
@@ -168,9 +168,6 @@ fn example_i() {
     let mut most = [0xffu8; 65536];
     let full = create::create(&mut most, 0x1000, true);
     show_first(b"I create", full, &most);
-    let mut over = [0xffu8; 65537];
-    let large = create::create(&mut over, 0x1000, true);
-    show_first(b"I create", large, &over);
 }
 
 // A new list without a checksum, with another alignment field.
@@ -929,6 +926,55 @@ fn fdt_finds() {
     fdt_find(b"/a", b"x\0");
 }
 
+// ---- Alignments up to 21 (document 02, request 7). The examples are our own.
+
+// Four bytes aligned, in a new list of 80 bytes. Byte 40, where the padding void will be, is not 0 before.
+fn aligned_near(example: &[u8], base: u64, exponent: u32) {
+    let mut area = [0u8; 80];
+    create::create(&mut area, base, true);
+    area[40] = 0xee;
+    let aligned = edit::edits::add_aligned(&mut area, base, 4, b"\x01\x02\x03\x04", exponent);
+    io::write_all(1, example);
+    show_done(b" add aligned", aligned, &area);
+    show_check(example, &area, base);
+}
+
+// A padding void with 32,728 bytes of data in an area of 65,536; byte 1000 is not 0 before. The first 24 bytes are shown.
+fn aligned_far() {
+    let mut area = [0xffu8; 65536];
+    create::create(&mut area, 0x1f_8000, true);
+    area[1000] = 0xee;
+    let aligned = edit::edits::add_aligned(&mut area, 0x1f_8000, 4, b"\x01\x02\x03\x04", 21);
+    show_first(b"large padding add aligned", aligned, &area);
+    show_check(b"large padding", &area, 0x1f_8000);
+    show_find(b"large padding", &area, 0x1f_8000, 4, 0);
+}
+
+// The list of exponent 21, relocated with a shift of 8, and to a place where it has no room.
+fn relocations_21() {
+    let mut area = [0u8; 80];
+    create::create(&mut area, 0x1f_ffc0, true);
+    edit::edits::add_aligned(&mut area, 0x1f_ffc0, 4, b"\x01\x02\x03\x04", 21);
+    let mut target = [0xffu8; 96];
+    let moved = relocate::relocate(&area, 0x1f_ffc0, &mut target, 0x3f_ffb8);
+    show_done(b"alignment 21 relocate", moved, &target);
+    let mut far = [0xffu8; 96];
+    let refused = relocate::relocate(&area, 0x1f_ffc0, &mut far, 0x40_0000);
+    show_done(b"alignment 21 relocate", refused, &far);
+}
+
+// A new list of edition 0.9 with alignment 21, its conversions from 0x1000 and from 0, and one with 22.
+fn alignments_09() {
+    let most = b"\xff\xd0\x6e\0\x83\x01\x10\x15\x10\0\0\0\x10\0\0\0";
+    let over = b"\xff\xd0\x6e\0\x84\x01\x10\x16\x10\0\0\0\x10\0\0\0";
+    show_check09(b"09 alignment 21", most, 0x1000);
+    show_convert09(b"09 alignment 21 convert", most, 0x1000, 0xff0);
+    show_convert09(b"09 alignment 21 from 0 convert", most, 0, 0x1f_fff1);
+    show_convert09(b"09 alignment 21 no room convert", most, 0, 0x1000);
+    show_check09(b"09 alignment 22", over, 0x1000);
+    show_convert09(b"09 alignment 22 convert", over, 0x1000, 0xff0);
+}
+
 fn main() {
     examples_a_to_d();
     example_e(b"0123456789abcdefg");
@@ -940,9 +986,11 @@ fn main() {
     example_h();
     example_i();
     example_j(b"J2", 2);
-    example_j(b"J13", 13);
+    example_j(b"J22", 22);
     example_j(b"J3", 3);
     example_j(b"J12", 12);
+    example_j(b"J13", 13);
+    example_j(b"J21", 21);
     example_k();
     example_m();
     example_n();
@@ -978,4 +1026,11 @@ fn main() {
     fdt_names_and_values();
     fdt_structures();
     fdt_finds();
+    aligned_near(b"exponent 13", 0x1fc0, 13);
+    aligned_near(b"exponent 21", 0x1f_ffc0, 21);
+    aligned_near(b"exponent 21 far", 0x1000, 21);
+    aligned_near(b"exponent 22", 0x3f_ffc0, 22);
+    aligned_far();
+    relocations_21();
+    alignments_09();
 }
