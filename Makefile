@@ -1,6 +1,6 @@
 # make run       the demonstration: the paper's first examples, a full list tidied, a bench's boot over the library, which reads a device
-#                tree, up to the valves' test certificates, a list of edition 0.9 converted
-# make show      the entries of a list in a file: FILE=.. BASE=..; without a file, a sample
+#                tree, up to the valves' test certificates, damaged boots, where a bad entry is named, a list of edition 0.9 converted
+# make show      the entries of a list in a file, up to a bad one, which it points at: FILE=.. BASE=..; without a file, two samples
 # make test      everything that is checked; ends with rt ci, whose last line is 'N passed, 0 failed'
 # make lib       target/staticlib/libtransfer_list.a, for C on x86-64
 # make install   the archive, the header and a pkg-config file under PREFIX (default /usr/local)
@@ -61,7 +61,7 @@ install: $(LIB)
 	install -d $(DESTDIR)$(PREFIX)/lib/pkgconfig $(DESTDIR)$(PREFIX)/include
 	install -m 644 $(LIB) $(DESTDIR)$(PREFIX)/lib/
 	install -m 644 include/transfer_list.h $(DESTDIR)$(PREFIX)/include/
-	@printf 'prefix=%s\nName: transfer_list\nDescription: transfer lists of the Firmware Handoff specification, proved\nVersion: 1\nCflags: -I$${prefix}/include\nLibs: -L$${prefix}/lib -ltransfer_list\n' $(PREFIX) > $(DESTDIR)$(PREFIX)/lib/pkgconfig/transfer_list.pc
+	@printf 'prefix=%s\nName: transfer_list\nDescription: transfer lists of the Firmware Handoff specification, proved\nVersion: %s\nCflags: -I$${prefix}/include\nLibs: -L$${prefix}/lib -ltransfer_list\n' $(PREFIX) $$(sed -n 's/^#define TL_INTERFACE //p' include/transfer_list.h) > $(DESTDIR)$(PREFIX)/lib/pkgconfig/transfer_list.pc
 
 # ctest/answers.expected was worked out from the paper, not with the library
 ctest: target/ctest/answers

@@ -2,7 +2,8 @@
  * The paper's examples A to N (it has no L) and every refusal, through the header alone. For each call every field of the answer is
  * printed, how many bytes changed, and the bytes where any did. `make ctest` compares this with answers.expected, which was worked out
  * from the paper and not with this library. The examples of edition 0.9 are our own, since source 000 has none, and so are those of
- * document 02, requests 2, 3 and 5 to 7, but for the reading of 900. Examples I and J are as its request 7 amends them.
+ * document 02, requests 2, 3 and 5 to 8, but for the reading of 900. Examples I and J are as its request 7 amends them, and `at` of every
+ * answer is as its request 8 has it.
  *
  * At most 65,536 bytes are lent, but for longer areas and targets that are all 0, are refused and stay so. So 65,537 of example I is not
  * here: it is a row of the proved table, and `make compare-large` has it.
@@ -90,21 +91,21 @@ static void show_buffer(const buffer *b, size_t lent)
 
 static void show_done(tl_done d)
 {
-    printf("  number %" PRIu32 ", value %" PRIu32 "\n", d.number, d.value);
+    printf("  number %" PRIu32 ", value %" PRIu32 ", at %" PRIu32 "\n", d.number, d.value, d.at);
     show_buffer(&area, len);
 }
 
 static void show_checked(tl_checked c)
 {
     printf("  number %" PRIu32 ", version %" PRIu32 ", used %" PRIu32 ", total %" PRIu32, c.number, c.version, c.used, c.total);
-    printf(", alignment %" PRIu32 ", live %" PRIu32 ", voids %" PRIu32 "\n", c.alignment, c.live, c.voids);
+    printf(", alignment %" PRIu32 ", live %" PRIu32 ", voids %" PRIu32 ", at %" PRIu32 "\n", c.alignment, c.live, c.voids, c.at);
     show_buffer(&area, len);
 }
 
 static void show_found(tl_found f)
 {
     const uint8_t *part = tl_data(area.now, f);
-    printf("  number %" PRIu32 ", offset %" PRIu32 ", size %" PRIu32, f.number, f.offset, f.size);
+    printf("  number %" PRIu32 ", offset %" PRIu32 ", size %" PRIu32 ", at %" PRIu32, f.number, f.offset, f.size, f.at);
     printf("; tl_data: area + %td\n", part - area.now);
     show_hex(part, f.size);
     show_buffer(&area, len);
@@ -115,7 +116,8 @@ static void show_certified(tl_certified c)
 {
     uint64_t bits;
     memcpy(&bits, &c.reading, sizeof bits);
-    printf("  number %" PRIu32 ", pass %" PRIu32 ", reading %.17g, bits %016" PRIx64 "\n", c.number, c.pass, c.reading, bits);
+    printf("  number %" PRIu32 ", pass %" PRIu32 ", reading %.17g, bits %016" PRIx64, c.number, c.pass, c.reading, bits);
+    printf(", at %" PRIu32 "\n", c.at);
     show_buffer(&area, len);
 }
 
@@ -2099,6 +2101,305 @@ static void fdt_files(void)
     fdt_find("/bus@0/gauge@20", "spare");
 }
 
+/*
+ * Where the bad entry is. The entries of `five` are at 24, 40, 56, 72 and 88, voids of `mixed` at 24, 72 and 120, and in edition 0.9 the
+ * entries of `two_voids` at 16, 32, 48, 56 and 64. Byte 3 of an entry is its hdr_size, 4 to 7 its data_size.
+ */
+
+/*
+ * Version 2 with hdr_size 25: at 32 tag 1 with hdr_size 16 and eight bytes; without data, at 56 a void with hdr_size 9 and at 72 tag 2 with
+ * hdr_size 16; total_size 96. What the headers have more is not 0.
+ */
+static const uint8_t later[88] = {0x0b, 0xb1, 0x0f, 0x4a, 0x67, 0x02, 0x19, 0x03, 0x58, 0x00, 0x00, 0x00, 0x60, 0x00, 0x00, 0x00,
+                                  0x01, 0x00, 0x00, 0x00, 0x00, 0x00, 0x00, 0x00, 0xc1, 0xc2, 0xc3, 0xc4, 0xc5, 0xc6, 0xc7, 0xc8,
+                                  0x01, 0x00, 0x00, 0x10, 0x08, 0x00, 0x00, 0x00, 0xd1, 0xd2, 0xd3, 0xd4, 0xd5, 0xd6, 0xd7, 0xd8,
+                                  0x11, 0x12, 0x13, 0x14, 0x15, 0x16, 0x17, 0x18, 0x00, 0x00, 0x00, 0x09, 0x00, 0x00, 0x00, 0x00,
+                                  0xe1, 0x5a, 0x5a, 0x5a, 0x5a, 0x5a, 0x5a, 0x5a, 0x02, 0x00, 0x00, 0x10, 0x00, 0x00, 0x00, 0x00,
+                                  0xf1, 0xf2, 0xf3, 0xf4, 0xf5, 0xf6, 0xf7, 0xf8};
+
+/* Not a call: one byte is changed, and the checksum byte is put right, as else 7 CHECKSUM would come first. */
+static void spoil(size_t at, uint8_t byte, uint8_t checksum)
+{
+    put(at, 1, byte);
+    put(4, 1, checksum);
+}
+
+static void spoil_five(size_t at, uint8_t byte, uint8_t checksum)
+{
+    list("a list", five, sizeof five, 112, 0x1000);
+    spoil(at, byte, checksum);
+}
+
+static void spoil_mixed(size_t at, uint8_t byte, uint8_t checksum)
+{
+    list("a list", mixed, sizeof mixed, 150, 0x1000);
+    spoil(at, byte, checksum);
+}
+
+static void spoil_later(size_t at, uint8_t byte, uint8_t checksum)
+{
+    list("a list", later, sizeof later, 96, 0x1000);
+    spoil(at, byte, checksum);
+}
+
+static void spoil_two_voids(size_t at, uint8_t byte, uint8_t checksum)
+{
+    list09(two_voids, sizeof two_voids, 96, 0x1000);
+    spoil(at, byte, checksum);
+}
+
+static void spoil_version_2(size_t at, uint8_t byte, uint8_t checksum)
+{
+    list09(version_2, sizeof version_2, 48, 0x1000);
+    spoil(at, byte, checksum);
+}
+
+/* Each call that makes the check, on the list as it is. */
+static void every_check(void)
+{
+    every_call();
+    certificate(SERIAL, TEST);
+}
+
+static void bad_sizes(void)
+{
+    title("bad entry, 8 ENTRY and where: hdr_size 9 of the first of five, of the middle one, of the last");
+    spoil_five(27, 9, 0xf4);
+    check();
+    spoil_five(59, 9, 0xf4);
+    every_check();
+    spoil_five(91, 9, 0xf4);
+    check();
+    title("bad entry: hdr_size 0, 7, 16 and 255 of the middle one; 8 passes, and at is 0");
+    spoil_five(59, 0, 0xfd);
+    check();
+    spoil(59, 7, 0xfa);
+    check();
+    spoil(59, 16, 0xed);
+    check();
+    spoil(59, 255, 0x02);
+    check();
+    spoil(59, 8, 0xf5);
+    check();
+    title("bad entry: a data_size up to used_size passes, one byte more does not: the first, the middle one, the last");
+    spoil_five(28, 72, 0xb5);
+    check();
+    spoil(28, 73, 0xb4);
+    check();
+    spoil_five(60, 40, 0xd5);
+    check();
+    spoil(60, 41, 0xd4);
+    every_check();
+    spoil_five(92, 9, 0xf4);
+    check();
+    title("bad entry: data_size 0xfffffff8 and 0xffffffff of the middle one; no sum wraps");
+    list("a list", five, sizeof five, 112, 0x1000);
+    put(61, 3, 0xff);
+    spoil(60, 0xf8, 0xfa);
+    check();
+    spoil(60, 0xff, 0xfd);
+    check();
+}
+
+static void bad_voids(void)
+{
+    title("bad entry: a void's data_size 4: the first, the middle one, the last; 4 of an entry that is no void passes");
+    spoil_mixed(28, 4, 0x75);
+    check();
+    spoil_mixed(76, 4, 0x75);
+    every_check();
+    spoil_mixed(124, 4, 0x75);
+    check();
+    spoil_mixed(52, 4, 0x7e);
+    check();
+}
+
+static void bad_places(void)
+{
+    title("bad entry, two of them: the first in list order counts, whatever rule each breaks; without it the second");
+    list("a list", five, sizeof five, 112, 0x1000);
+    put(43, 1, 9);
+    spoil(76, 57, 0xc5);
+    every_check();
+    spoil(43, 8, 0xc4);
+    check();
+    put(44, 1, 57);
+    put(75, 1, 9);
+    spoil(76, 8, 0xc5);
+    check();
+    put(40, 1, 0);
+    spoil(44, 7, 0xf9);
+    check();
+    spoil(44, 8, 0xf6);
+    check();
+    title("bad entry: after a data_size of 0 what was data is read as an entry, which is the bad one");
+    spoil_five(60, 0, 0xfd);
+    every_check();
+    title("bad entry: the offset is that in the area, whatever its base; in the last 8 of 65,536 bytes");
+    list("a list", five, sizeof five, 112, 0);
+    spoil(91, 9, 0xf4);
+    check();
+    list("a list", five, sizeof five, 112, TOP - 112);
+    spoil(91, 9, 0xf4);
+    check();
+    create(65536, 0x1000, true);
+    put_voids(24, 8189);
+    put(8, 1, 0x00);
+    put(10, 1, 0x01);
+    spoil(65531, 9, 0xed);
+    every_check();
+}
+
+static void bad_beside_others(void)
+{
+    title("bad entry: 7 CHECKSUM comes before it, with 0 there");
+    list("a list", five, sizeof five, 112, 0x1000);
+    put(59, 1, 9);
+    every_check();
+    title("bad entry: it comes before 9 TAG, 10 SHAPE, 11 ALIGN, 12 TARGET, 13 NONE, 14 ROOM and 18 CERTIFICATE");
+    spoil(59, 9, 0xf4);
+    find(0, 0);
+    find(9, 0);
+    add(0x800000, 3, false);
+    add(6, 11, true);
+    add(4, 17, true);
+    add_aligned(0, 4, 4);
+    add_aligned(5, 3, 4);
+    add_aligned(4, 4, 22);
+    add_aligned(4, 4, 12);
+    strike(0, 0);
+    strike(9, 0);
+    relocate(LIMIT + 1, 0x2000);
+    relocate(8, 0x2000);
+    certificate(0, 0);
+}
+
+static void bad_beside_certificate(void)
+{
+    title("bad entry, and the certificate: behind it; its own entry, by hdr_size; behind one of 57 bytes, where 18 would be next");
+    source = sound;
+    create(128, 0x1000, true);
+    add(TL_TAG_CERTIFICATE, 56, false);
+    add(1, 8, false);
+    add(2, 8, false);
+    source = data;
+    certificate(SERIAL, TEST);
+    spoil(91, 9, 0xaf);
+    certificate(SERIAL, TEST);
+    spoil(27, 7, 0xa0);
+    certificate(SERIAL, TEST);
+    put(27, 1, 8);
+    put(91, 1, 8);
+    spoil(28, 57, 0xaf);
+    certificate(SERIAL, TEST);
+    spoil(28, 56, 0xae);
+    certificate(SERIAL, TEST);
+}
+
+static void bad_later(void)
+{
+    title("bad entry, version 2: hdr_size 9 and 16 pass, 7 does not: the first, whose place is 32, the middle one, the last");
+    list("a list", later, sizeof later, 96, 0x1000);
+    check();
+    spoil(35, 7, 0x70);
+    check();
+    spoil_later(59, 7, 0x69);
+    every_check();
+    spoil_later(75, 7, 0x70);
+    check();
+    title("bad entry, version 2: a hdr_size of 16 with 8 bytes left, and of 9; 8 passes; a hdr_size of 255");
+    spoil_later(8, 80, 0x67);
+    every_check();
+    spoil(75, 9, 0x7e);
+    check();
+    spoil(75, 8, 0x7f);
+    check();
+    spoil(75, 255, 0x88);
+    check();
+    title("bad entry, version 2: a data_size of 1 too many; a void of 4; version 255 likewise");
+    spoil_later(76, 1, 0x66);
+    check();
+    spoil_later(60, 4, 0x63);
+    check();
+    spoil(5, 255, 0x9e);
+    check();
+}
+
+static void bad_09(void)
+{
+    title("bad entry, edition 0.9: hdr_size 9 of the first of five, of the middle one, of the last");
+    spoil_two_voids(19, 9, 0x72);
+    check09();
+    spoil_two_voids(51, 9, 0x72);
+    every_call09();
+    spoil_two_voids(67, 9, 0x72);
+    check09();
+    title("bad entry, edition 0.9: a data_size one too many: the first, the middle one, the last; 0xffffffff");
+    spoil_two_voids(20, 57, 0xa2);
+    check09();
+    spoil_two_voids(52, 25, 0x8a);
+    every_call09();
+    spoil_two_voids(68, 9, 0x72);
+    check09();
+    put(69, 3, 0xff);
+    spoil(68, 0xff, 0x65);
+    check09();
+    title("bad entry, edition 0.9: a void's data_size 4: the first, the second void, the last entry made one");
+    spoil_two_voids(20, 4, 0x6d);
+    check09();
+    spoil_two_voids(60, 4, 0x75);
+    every_call09();
+    list09(two_voids, sizeof two_voids, 96, 0x1000);
+    put(64, 1, 0);
+    spoil(68, 4, 0x67);
+    check09();
+}
+
+static void bad_09_beside_others(void)
+{
+    title("bad entry, edition 0.9, two of them: the first counts; 7 CHECKSUM comes before them, with 0 there");
+    spoil_two_voids(35, 7, 0x70);
+    check09();
+    spoil(51, 7, 0x6f);
+    every_call09();
+    put(4, 1, 0x6e);
+    every_call09();
+    title("bad entry, edition 0.9: it comes before 9 TAG, 12 TARGET, 13 NONE and 14 ROOM");
+    spoil(51, 8, 0x70);
+    find09(0, 0);
+    find09(9, 0);
+    convert09(LIMIT + 1, 0x2000);
+    convert09(0, 0x2000);
+    title("bad entry, edition 0.9, version 2: 7 is bad; a header of 16 with 8 bytes left; the second entry; 5 READONLY with 0 there");
+    spoil_version_2(27, 7, 0x0d);
+    every_call09();
+    spoil_version_2(8, 32, 0xe1);
+    every_call09();
+    spoil_version_2(28, 0, 0x14);
+    check09();
+    put(40, 8, 0);
+    spoil(43, 16, 0xa3);
+    every_call09();
+    spoil(43, 9, 0x9c);
+    check09();
+    spoil(43, 7, 0x9a);
+    check09();
+    spoil(43, 8, 0x9b);
+    check09();
+}
+
+static void no_list_check(void)
+{
+    title("bad entry: create and the device tree's lookup look at no list, and have 0 there");
+    create(112, 0x1000, true);
+    create(24, 0x1000, true);
+    put_hand_tree(176);
+    fdt_find("/a", "p");
+    fdt_find("/a", "r");
+    len = 175;
+    fdt_find("/a", "p");
+}
+
 int main(void)
 {
     zero_bytes = calloc(LIMIT + 1 + BEHIND, 1);
@@ -2137,6 +2438,15 @@ int main(void)
     fdt_paths();
     fdt_first();
     fdt_files();
+    bad_sizes();
+    bad_voids();
+    bad_places();
+    bad_beside_others();
+    bad_beside_certificate();
+    bad_later();
+    bad_09();
+    bad_09_beside_others();
+    no_list_check();
     free(zero_bytes);
     return 0;
 }

@@ -1,4 +1,4 @@
-/* The layout of the header's structures and the numbers of its refusals, checked by the compiler; nothing is run. */
+/* The layout of the header's structures, the interface's number and those of its refusals, checked by the compiler; nothing is run. */
 #include <float.h>
 
 #include "transfer_list.h"
@@ -16,7 +16,7 @@
 #define FIELD(type, field, at) FIELD_OF(4, type, field, at)
 #define NUMBER(name, number) HOLDS(name##_number, name == (number))
 
-SIZE(tl_checked, 28);
+SIZE(tl_checked, 32);
 FIELD(tl_checked, number, 0);
 FIELD(tl_checked, version, 4);
 FIELD(tl_checked, used, 8);
@@ -24,24 +24,30 @@ FIELD(tl_checked, total, 12);
 FIELD(tl_checked, alignment, 16);
 FIELD(tl_checked, live, 20);
 FIELD(tl_checked, voids, 24);
+FIELD(tl_checked, at, 28);
 
-SIZE(tl_found, 12);
+SIZE(tl_found, 16);
 FIELD(tl_found, number, 0);
 FIELD(tl_found, offset, 4);
 FIELD(tl_found, size, 8);
+FIELD(tl_found, at, 12);
 
-SIZE(tl_done, 8);
+SIZE(tl_done, 12);
 FIELD(tl_done, number, 0);
 FIELD(tl_done, value, 4);
+FIELD(tl_done, at, 8);
 
-SIZE(tl_certified, 16);
+SIZE(tl_certified, 24);
 FIELD(tl_certified, number, 0);
 FIELD(tl_certified, pass, 4);
 FIELD_OF(8, tl_certified, reading, 8);
+FIELD(tl_certified, at, 16);
 
 /* the reading is an IEEE 754 number of 64 bits */
 SIZE(double, 8);
 HOLDS(double_digits, FLT_RADIX == 2 && DBL_MANT_DIG == 53 && DBL_MIN_EXP == -1021 && DBL_MAX_EXP == 1024);
+
+NUMBER(TL_INTERFACE, 2);
 
 NUMBER(TL_ACCEPTED, 0);
 NUMBER(TL_AREA, 1);

@@ -62,6 +62,6 @@ int main(void)
     old_area[80] ^= 0x20;
     d = tl09_convert(old_area, sizeof old_area, OLD_BASE, new_area, sizeof new_area, TARGET_BASE);
     printf("\nwith one bit of the bench's ticket damaged the conversion is\n  ");
-    print_refusal(d.number);
+    print_refusal(d.number, d.at);
     return d.number == TL_CHECKSUM ? 0 : 1;
 }

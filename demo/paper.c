@@ -17,7 +17,7 @@ static void show(const char *what, tl_done d)
 {
     printf("%s: ", what);
     if (d.number != 0) {
-        print_refusal(d.number);
+        print_refusal(d.number, d.at);
     } else {
         printf("number %u, value %u\n  ", (unsigned)d.number, (unsigned)d.value);
         print_list(area, sizeof area, BASE);

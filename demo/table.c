@@ -43,9 +43,12 @@ const char *refusal_cause(uint32_t number)
     return number < sizeof causes / sizeof *causes && causes[number] != NULL ? causes[number] : "";
 }
 
-void print_refusal(uint32_t number)
+void print_refusal(uint32_t number, uint32_t at)
 {
-    printf("refused %u %s: %s\n", (unsigned)number, refusal_name(number), refusal_cause(number));
+    printf("refused %u %s", (unsigned)number, refusal_name(number));
+    if (at != 0)
+        printf(" at offset %u", (unsigned)at);
+    printf(": %s\n", refusal_cause(number));
 }
 
 static uint32_t number_at(const uint8_t *bytes, size_t at, int width)
@@ -54,6 +57,11 @@ static uint32_t number_at(const uint8_t *bytes, size_t at, int width)
     while (width-- > 0)
         n = n << 8 | bytes[at + (size_t)width];
     return n;
+}
+
+uint32_t next_entry(const uint8_t *area, uint32_t at)
+{
+    return at + (area[at + 3] + number_at(area, at + 4, 4) + 7) / 8 * 8;
 }
 
 static const char *tag_name(uint32_t tag)
@@ -85,30 +93,55 @@ static void print_data(uint32_t tag, const uint8_t *data, uint32_t size)
            tag != TL_TAG_FDT ? "" : tl_fdt_check(data, size) == 0 ? "  tree accepted" : "  tree refused 21");
 }
 
-/* The answer of either edition's check; in both, hdr_size is at 6 and the entries are alike. */
+/* A row's columns up to the data's size. */
+static void print_entry(const char *mark, const uint8_t *area, uint32_t at)
+{
+    uint32_t tag = number_at(area, at, 3), size = number_at(area, at + 4, 4);
+    printf("%s%8u  %06x  %-20s  %10u  ", mark, (unsigned)at, (unsigned)tag, tag_name(tag), (unsigned)size);
+}
+
+/* The row of the bad entry, with its fault in the place of address and data. Only its 8 header bytes are read, which used_size covers. */
+static void print_bad_entry(const uint8_t *area, uint32_t at, uint32_t used)
+{
+    uint32_t version = area[5], hdr_size = area[at + 3];
+    uint64_t end = at + ((uint64_t)hdr_size + number_at(area, at + 4, 4) + 7) / 8 * 8;
+    print_entry("->", area, at);
+    if (version == 1 ? hdr_size != 8 : hdr_size < 8)
+        printf("BAD: its header size is %u, not 8%s\n", (unsigned)hdr_size, version == 1 ? "" : " or more");
+    else if (end > used)
+        printf("BAD: it reaches %llu bytes beyond used_size\n", (unsigned long long)(end - used));
+    else
+        printf("BAD: a void's size is no multiple of 8\n");
+}
+
+/* The answer of either edition's check; in both, the header's fields up to total_size and the entries are alike. */
 static uint32_t print_checked(tl_checked c, const uint8_t *area, uint64_t base, const char *checksum)
 {
-    if (c.number != 0) {
-        print_refusal(c.number);
+    if (c.number != 0)
+        print_refusal(c.number, c.at);
+    if (c.number != 0 && c.number != TL_ENTRY)
         return c.number;
-    }
-    printf("version %u, used %u of %u, alignment 2^%u, checksum %02x (%s), %u live, %u void\n", (unsigned)c.version, (unsigned)c.used,
-           (unsigned)c.total, (unsigned)c.alignment, area[4], checksum, (unsigned)c.live, (unsigned)c.voids);
-    printf("    offset  tag     kind                      size  address         data\n");
-    for (uint32_t at = (area[6] + 7u) / 8 * 8; at < c.used;) {
+    uint32_t used = number_at(area, 8, 4), total = number_at(area, 12, 4);
+    printf("%sversion %u, used %u of %u, alignment 2^%u, checksum %02x (%s)", c.number == 0 ? "" : "  ", area[5], (unsigned)used,
+           (unsigned)total, area[7], area[4], checksum);
+    if (c.number == 0)
+        printf(", %u live, %u void", (unsigned)c.live, (unsigned)c.voids);
+    printf("\n    offset  tag     kind                        size  address         data\n");
+    for (uint32_t at = (area[6] + 7u) / 8 * 8; at < (c.number == 0 ? used : c.at); at = next_entry(area, at)) {
         uint32_t tag = number_at(area, at, 3), hdr_size = area[at + 3], size = number_at(area, at + 4, 4);
-        printf("  %8u  %06x  %-20s  %8u  0x%012llx ", (unsigned)at, (unsigned)tag, tag_name(tag), (unsigned)size,
-               (unsigned long long)(base + at + hdr_size));
+        print_entry("  ", area, at);
+        printf("0x%012llx ", (unsigned long long)(base + at + hdr_size));
         print_data(tag, area + at + hdr_size, size);
-        at += (hdr_size + size + 7) / 8 * 8;
     }
-    return 0;
+    if (c.number != 0)
+        print_bad_entry(area, c.at, used);
+    return c.number;
 }
 
 uint32_t print_list(const uint8_t *area, size_t len, uint64_t base)
 {
     tl_checked c = tl_check(area, len, base);
-    return print_checked(c, area, base, c.number == 0 && (area[16] & 1) ? "on" : "off");
+    return print_checked(c, area, base, (c.number == 0 || c.number == TL_ENTRY) && (area[16] & 1) ? "on" : "off");
 }
 
 uint32_t print_list09(const uint8_t *area, size_t len, uint64_t base)

@@ -106,7 +106,10 @@ static tl_found find(const uint8_t *lent, text path, text name)
 {
     const uint8_t *p = path.n == 0 ? NULL : put(of_path, path.at, path.n, 1), *n = name.n == 0 ? NULL : put(of_name, name.at, name.n, 1);
     running = "the library's lookup";
-    return tl_fdt_find(at_hand->len == 0 ? NULL : lent, at_hand->len, p, path.n, n, name.n);
+    tl_found got = tl_fdt_find(at_hand->len == 0 ? NULL : lent, at_hand->len, p, path.n, n, name.n);
+    if (got.at != 0)
+        fail("a lookup's answer says the place of a list's entry");
+    return got;
 }
 
 static bool equal(answer a, answer b) { return a.found == b.found && a.offset == b.offset && a.size == b.size; }

@@ -23,7 +23,16 @@ extern "C" {
 #endif
 
 /*
- * The numbers of refusals. A refusal answers its number, and every other number in the answer is 0.
+ * The number of this interface. It goes up by one when a program that was built against an older header must be rebuilt. Answers are
+ * returned by value: a program and an archive of different numbers may overwrite each other's memory, and the linker does not tell.
+ *	2  each answer type has `at` as its last field; a program built against the header without it, which had no number, must be rebuilt
+ */
+#define TL_INTERFACE 2
+
+/*
+ * The numbers of refusals. A refusal answers its number, and every other number in the answer is 0, but for `at` of TL_ENTRY: that is the
+ * offset, from the start of the area, of the first byte of the first entry in list order that breaks a rule, where its header starts. It
+ * is never 0 then, and is 0 in every other answer, refused or not.
  * In lists of edition 0.9, which the tl09_ functions are for, used_size is called size, and total_size max_size.
  */
 #define TL_ACCEPTED 0u   /* not refused */
@@ -35,7 +44,7 @@ extern "C" {
 #define TL_SIZES 6u      /* hdr_size, used_size or total_size is wrong, alignment is outside 3 to 21, or total_size exceeds len */
 #define TL_CHECKSUM 7u   /* with has_checksum the exclusive or of the used bytes is not 0; without it the checksum byte is not 0; */
                          /* in edition 0.9, the checksum byte is not the sum modulo 256 of the other used bytes */
-#define TL_ENTRY 8u      /* an entry's hdr_size is wrong, it exceeds used_size, or a void's data_size is no multiple of 8 */
+#define TL_ENTRY 8u      /* an entry's hdr_size is wrong, it exceeds used_size, or a void's data_size is no multiple of 8; `at` says where */
 #define TL_TAG 9u        /* the tag is 0 or over 0xffffff; for the adds also 0x800000 to 0xffefff */
 #define TL_SHAPE 10u     /* the tag may not carry data of this length: tag 5 under 4 bytes, 6 not 12, 0x100 not 8, 0x104 not 16, */
                          /* 0xfff010 not 56 */
@@ -66,6 +75,7 @@ typedef struct {
     uint32_t alignment; /* the greatest data alignment, as a power of two's exponent */
     uint32_t live;      /* the number of entries that are not voids */
     uint32_t voids;     /* the number of void entries */
+    uint32_t at;        /* of TL_ENTRY, where the first entry that breaks a rule starts; else 0 */
 } tl_checked;
 
 /* What a find answers. */
@@ -73,19 +83,22 @@ typedef struct {
     uint32_t number; /* 0, or the number of the refusal */
     uint32_t offset; /* where the data starts, counted from the start of the area; of tl_fdt_find(), where the value starts in the tree */
     uint32_t size;   /* how many bytes of data, without padding */
+    uint32_t at;     /* of TL_ENTRY, where the first entry that breaks a rule starts; else 0; always 0 from tl_fdt_find() */
 } tl_found;
 
 /* What create, the edits and the conversion answer. */
 typedef struct {
     uint32_t number; /* 0, or the number of the refusal */
     uint32_t value;  /* what the function says */
+    uint32_t at;     /* of TL_ENTRY, where the first entry that breaks a rule starts; else 0; always 0 from tl_create() */
 } tl_done;
 
-/* What tl_certificate() answers. */
+/* What tl_certificate() answers. Compare its fields and not its bytes: padding may stand behind the last. */
 typedef struct {
     uint32_t number; /* 0, or the number of the refusal */
     uint32_t pass;   /* 1 for a pass, 0 for a fail; 0 for a refusal too */
     double reading;  /* the reading, of a pass and of a fail; +0.0 for a refusal */
+    uint32_t at;     /* of TL_ENTRY, where the first entry that breaks a rule starts; else 0 */
 } tl_certified;
 
 /**
@@ -99,7 +112,8 @@ typedef struct {
  * returns:
  *	number 0, and the list's version, used and total sizes, alignment, and numbers of live and void entries
  *	TL_AREA, TL_SHORT, TL_SIGNATURE, TL_VERSION, TL_SIZES, TL_CHECKSUM, TL_ENTRY, with their causes as above; the least number
- *	whose cause is there
+ *	whose cause is there; TL_ENTRY with `at`, where the first entry that breaks a rule starts: its first eight bytes, from area + at
+ *	on, lie in the used bytes. Every function that answers TL_ENTRY answers the `at` that its edition's check has for the list
  */
 tl_checked tl_check(const uint8_t *area, size_t len, uint64_t base);
 
@@ -388,7 +402,7 @@ tl_found tl_fdt_find(const uint8_t *data, size_t len, const uint8_t *path, size_
  *	size is under hdr_size rounded up to a multiple of 8, size exceeds max_size, or max_size exceeds len
  *	TL_CHECKSUM, the checksum byte is not the sum modulo 256 of the other bytes of size
  *	TL_ENTRY, an entry's hdr_size is not 8 (version 1) or is under 8 (above), it reaches beyond size, or a void's data_size is no
- *	multiple of 8
+ *	multiple of 8; with `at`, as tl_check()
  *	of these, the least number whose cause is there
  */
 tl_checked tl09_check(const uint8_t *area, size_t len, uint64_t base);

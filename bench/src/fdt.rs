@@ -68,7 +68,7 @@ fn compare(Subject { what, words, tree, asked, .. }: &Subject, numbers: &mut Num
     let mut tree = tree.clone();
     assert_eq!(same_check(what, &tree), 0);
     for (_, place) in asked {
-        let found = Found { number: 0, offset: place.offset as u32, size: place.size as u32 };
+        let found = Found { number: 0, offset: place.offset as u32, size: place.size as u32, at: 0 };
         assert_eq!(same_find(what, &tree, &place.path, &place.name), found, "{what}");
         assert_eq!(same_find(what, &tree, &place.path, b"no such name").number, 13, "{what}");
         for path in [&b""[..], b"//", &place.path[1..], &[&place.path, &b"/"[..]].concat(), &[b"/", &place.path[..]].concat()] {
@@ -150,7 +150,7 @@ mod libfdt {
         if value.is_null() {
             return Found { number: 13, ..Found::default() };
         }
-        Found { number: 0, offset: (value as usize - tree.as_ptr() as usize) as u32, size: size as u32 }
+        Found { number: 0, offset: (value as usize - tree.as_ptr() as usize) as u32, size: size as u32, at: 0 }
     }
 
     pub fn rows(subjects: &[Subject]) {

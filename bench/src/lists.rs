@@ -26,6 +26,14 @@ pub fn of_8_bytes(length: usize, tag: u32) -> Vec<u8> {
     list(length, (0..(length - 24) / 8).map(|_| (tag, 0)))
 }
 
+/// The same with a wrong header size in the last of them.
+pub fn last_bad(length: usize) -> Vec<u8> {
+    let mut a = of_8_bytes(length, 1);
+    a[length - 5] ^= 1;
+    a[4] ^= 1;
+    a
+}
+
 /// Entries of 32 bytes each up to 72 bytes before the end, then one with the tag that is looked for if `ended`, else room.
 pub fn of_32_bytes(length: usize, ended: bool) -> Vec<u8> {
     list(length, (0..(length - 96) / 32).map(|_| (1, 24)).chain(ended.then_some((LAST, 64))))

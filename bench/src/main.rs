@@ -140,13 +140,19 @@ fn times_check(what: &str, area: &[u8]) -> (f64, f64) {
     times_reading(what, area, calls(area), library_check, |a| plain::check(a, BASE, false))
 }
 
+/// Times a check that refuses the last entry, of 8 bytes.
+fn time_refused(what: &str, area: &[u8]) {
+    assert_eq!(library_check(area), Checked { number: 8, at: area.len() as u32 - 8, ..Checked::default() }, "{what}");
+    time_reading(what, area, library_check, |a| plain::check(a, BASE, false));
+}
+
 fn time_find(what: &str, area: &[u8]) {
     assert_eq!(library_find(area).number, 0, "{what}");
     time_reading(what, area, library_find, |a| plain::find(a, BASE, LAST, 0));
 }
 
 fn time_certificate(what: &str, area: &[u8]) {
-    assert_eq!(library_certificate(area), Certified { number: 0, pass: 1, reading: 900.0 }, "{what}");
+    assert_eq!(library_certificate(area), Certified { number: 0, pass: 1, reading: 900.0, at: 0 }, "{what}");
     time_reading(what, area, library_certificate, |a| plain::certificate(a, BASE, SERIAL, TEST));
 }
 
@@ -222,6 +228,7 @@ fn rows(length: usize) {
     let (name, end) = (grouped(length), length - 256..length);
     time_check(&format!("check, {name} bytes, one entry"), &lists::one_entry(length));
     time_check(&format!("check, {name} bytes, entries of 8 bytes"), &lists::of_8_bytes(length, 1));
+    time_refused(&format!("check, {name} bytes, the last of 8 bytes bad"), &lists::last_bad(length));
     let (open, ended) = (lists::of_32_bytes(length, false), lists::of_32_bytes(length, true));
     time_find(&format!("find the last, {name} bytes, entries of 32 bytes"), &ended);
     time_add(&format!("add at the tail, {name} bytes, entries of 32 bytes"), &open, end.clone(), false);

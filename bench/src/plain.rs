@@ -14,6 +14,7 @@ pub struct Checked {
     pub alignment: u32,
     pub live: u32,
     pub voids: u32,
+    pub at: u32,
 }
 
 fn refused(number: u32) -> Checked {
@@ -88,14 +89,14 @@ fn check_edition(area: &[u8], base: u64, editing: bool, signature: u32, own: u8,
     while at < list.len() {
         let left = list.len() - at;
         if left < 8 {
-            return refused(8);
+            return Checked { at: at as u32, ..refused(8) };
         }
         let head = u64::from_le_bytes(list[at..at + 8].try_into().unwrap());
         let (tag, size) = (head & 0xff_ffff, head >> 32);
         let entry_hdr = (head >> 24) as u8;
         let span = align8(entry_hdr as u64 + size);
         if header_size_wrong(version, 8, entry_hdr) || span > left as u64 || (tag == 0 && size % 8 != 0) {
-            return refused(8);
+            return Checked { at: at as u32, ..refused(8) };
         }
         if tag == 0 {
             voids += 1;
@@ -104,7 +105,7 @@ fn check_edition(area: &[u8], base: u64, editing: bool, signature: u32, own: u8,
         }
         at += span as usize;
     }
-    Checked { number: 0, version: version as u32, used, total, alignment: alignment as u32, live, voids }
+    Checked { number: 0, version: version as u32, used, total, alignment: alignment as u32, live, voids, at: 0 }
 }
 
 #[repr(C)]
@@ -112,10 +113,16 @@ fn check_edition(area: &[u8], base: u64, editing: bool, signature: u32, own: u8,
 pub struct Done {
     pub number: u32,
     pub value: u32,
+    pub at: u32,
 }
 
 fn refused_edit(number: u32) -> Done {
-    Done { number, value: 0 }
+    Done { number, ..Done::default() }
+}
+
+/// An edit of a list whose check refused it.
+fn refused_list(c: Checked) -> Done {
+    Done { number: c.number, value: 0, at: c.at }
 }
 
 #[inline(never)]
@@ -175,6 +182,7 @@ pub struct Found {
     pub number: u32,
     pub offset: u32,
     pub size: u32,
+    pub at: u32,
 }
 
 /// Find in a version 1 list, with the same answers as the library's.
@@ -183,13 +191,13 @@ pub fn find(area: &[u8], base: u64, tag: u32, n: u64) -> Found {
     let refused = |number| Found { number, ..Found::default() };
     let c = check(area, base, false);
     if c.number != 0 {
-        return refused(c.number);
+        return Found { at: c.at, ..refused(c.number) };
     }
     if tag == 0 || tag > 0xff_ffff {
         return refused(9);
     }
     match entries(&area[..c.used as usize]).filter(|e| e.1 == tag).nth(n as usize) {
-        Some((at, _, size)) => Found { number: 0, offset: at as u32 + 8, size: size as u32 },
+        Some((at, _, size)) => Found { number: 0, offset: at as u32 + 8, size: size as u32, at: 0 },
         None => refused(13),
     }
 }
@@ -199,7 +207,7 @@ pub fn find(area: &[u8], base: u64, tag: u32, n: u64) -> Found {
 pub fn add(area: &mut [u8], base: u64, tag: u32, data: &[u8], use_voids: bool) -> Done {
     let c = check(area, base, true);
     if c.number != 0 {
-        return refused_edit(c.number);
+        return refused_list(c);
     }
     if tag == 0 || tag > 0xff_ffff || (0x80_0000..=0xff_efff).contains(&tag) {
         return refused_edit(9);
@@ -225,7 +233,7 @@ pub fn add(area: &mut [u8], base: u64, tag: u32, data: &[u8], use_voids: bool) -
             put_header(a, at + 8 + padded, 0, rest - 8);
         }
     });
-    Done { number: 0, value: at as u32 + 8 }
+    Done { number: 0, value: at as u32 + 8, at: 0 }
 }
 
 /// Void, with the same answers and bytes as the library's.
@@ -233,7 +241,7 @@ pub fn add(area: &mut [u8], base: u64, tag: u32, data: &[u8], use_voids: bool) -
 pub fn void(area: &mut [u8], base: u64, tag: u32, n: u64) -> Done {
     let c = check(area, base, true);
     if c.number != 0 {
-        return refused_edit(c.number);
+        return refused_list(c);
     }
     if tag == 0 || tag > 0xff_ffff {
         return refused_edit(9);
@@ -247,7 +255,7 @@ pub fn void(area: &mut [u8], base: u64, tag: u32, n: u64) -> Done {
         put_header(a, at, 0, padded);
         a[at + 8..at + 8 + padded].fill(0);
     });
-    Done { number: 0, value: at as u32 }
+    Done { number: 0, value: at as u32, at: 0 }
 }
 
 /// Tidy, with the same answers and bytes as the library's.
@@ -255,7 +263,7 @@ pub fn void(area: &mut [u8], base: u64, tag: u32, n: u64) -> Done {
 pub fn tidy(area: &mut [u8], base: u64) -> Done {
     let c = check(area, base, true);
     if c.number != 0 {
-        return refused_edit(c.number);
+        return refused_list(c);
     }
     let list = &mut area[..c.used as usize];
     // the voids from `end`, the end of the last live entry so far, to `at`
@@ -278,7 +286,7 @@ pub fn tidy(area: &mut [u8], base: u64) -> Done {
     if list[16] & 1 == 1 {
         list[4] = xor(&list[..end]);
     }
-    Done { number: 0, value: end as u32 }
+    Done { number: 0, value: end as u32, at: 0 }
 }
 
 pub const CERTIFICATE: u32 = 0xff_f010;
@@ -289,6 +297,7 @@ pub struct Certified {
     pub number: u32,
     pub pass: u32,
     pub reading: f64,
+    pub at: u32,
 }
 
 fn long(bytes: &[u8], at: usize) -> u64 {
@@ -301,7 +310,7 @@ pub fn certificate(area: &[u8], base: u64, serial: u64, test: u64) -> Certified 
     let refused = |number| Certified { number, ..Certified::default() };
     let c = check(area, base, false);
     if c.number != 0 {
-        return refused(c.number);
+        return Certified { at: c.at, ..refused(c.number) };
     }
     let mut found = entries(&area[..c.used as usize]).filter(|e| e.1 == CERTIFICATE);
     let (Some((at, _, 56)), None) = (found.next(), found.next()) else {
@@ -312,7 +321,7 @@ pub fn certificate(area: &[u8], base: u64, serial: u64, test: u64) -> Certified 
         return refused(19);
     }
     match judge(data) {
-        Some((reading, pass)) => Certified { number: 0, pass: pass as u32, reading },
+        Some((reading, pass)) => Certified { number: 0, pass: pass as u32, reading, at: 0 },
         None => refused(20),
     }
 }
@@ -340,7 +349,7 @@ fn judge(data: &[u8]) -> Option<(f64, bool)> {
 pub fn convert09(area: &[u8], base: u64, target: &mut [u8], target_base: u64) -> Done {
     let c = check09(area, base, true);
     if c.number != 0 {
-        return refused_edit(c.number);
+        return refused_list(c);
     }
     let len = target.len();
     if len > MOST || target_base > 1 << 48 || target_base + len as u64 > 1 << 48 {
@@ -361,5 +370,5 @@ pub fn convert09(area: &[u8], base: u64, target: &mut [u8], target_base: u64) ->
     list[16..24].copy_from_slice(&1u64.to_le_bytes());
     list[24..].copy_from_slice(&area[16..size]);
     list[4] = xor(list);
-    Done { number: 0, value: shift as u32 }
+    Done { number: 0, value: shift as u32, at: 0 }
 }

@@ -29,7 +29,7 @@ pub fn find(data: &[u8], path: &[u8], name: &[u8]) -> Found {
         return refused(FDT);
     };
     match tree.find(path, name) {
-        Some(value) => Found { number: 0, offset: (tree.start + value.start) as u32, size: value.len() as u32 },
+        Some(value) => Found { number: 0, offset: (tree.start + value.start) as u32, size: value.len() as u32, at: 0 },
         None => refused(NONE),
     }
 }

@@ -6,7 +6,7 @@ use crate::library;
 use oracle::demand::Relocation;
 use oracle::demand09;
 use oracle::lists::List;
-use oracle::model::Done;
+use oracle::model::{Checked, Done, Found};
 use oracle::model09;
 use oracle::params::{self, Facts};
 use oracle::rng::Rng;
@@ -29,14 +29,27 @@ impl Bench {
     }
 
     pub fn check09(&mut self, list: &List) -> Result<(), String> {
+        self.checked09(list)?;
+        Ok(())
+    }
+
+    /// The same; the answer that both gave.
+    pub fn checked09(&mut self, list: &List) -> Result<Checked, String> {
         let mut area = self.guards.lend(&list.area);
         let wanted = model09::check(&list.area, list.base);
         let given = library::check09(&mut area, list.base);
         let asked = Asked { call: Call::Check09, numbers: &|| format!("base {:#x}", list.base) };
-        self.judge(&asked, wanted, given, &[untouched("area", &list.area, &area)])
+        self.judge(&asked, wanted, given, &[untouched("area", &list.area, &area)])?;
+        Ok(given)
     }
 
     pub fn find09(&mut self, list: &List, tag: u32, n: u64) -> Result<(), String> {
+        self.found09(list, tag, n)?;
+        Ok(())
+    }
+
+    /// The same; the answer that both gave.
+    pub fn found09(&mut self, list: &List, tag: u32, n: u64) -> Result<Found, String> {
         let mut area = self.guards.lend(&list.area);
         let wanted = model09::find(&list.area, list.base, tag, n);
         let given = library::find09(&mut area, list.base, tag, n);
@@ -44,7 +57,7 @@ impl Bench {
         let asked = Asked { call: Call::Find09, numbers: &numbers };
         self.judge(&asked, wanted, given, &[untouched("area", &list.area, &area)])?;
         self.see_large(|large| large.found(Call::Find09, &wanted));
-        Ok(())
+        Ok(given)
     }
 
     pub fn convert09(&mut self, list: &List, bytes: &[u8], target_base: u64) -> Result<(), String> {

@@ -6,12 +6,14 @@ use crate::lent::{Guards, Lent};
 use crate::library;
 use oracle::add_lengths::AddLengths;
 use oracle::alignments::Alignments;
+use oracle::demand_entry;
+use oracle::entry_sights::EntrySights;
 use oracle::fdt_breaks::Breaks;
 use oracle::fdt_found::Finds;
 use oracle::fdt_sights;
 use oracle::lists::{List, MOST_LENT};
 use oracle::lists_certificate;
-use oracle::model::{self, Answer, Edition};
+use oracle::model::{self, Answer, Checked, Edition, Found};
 use oracle::params::{self, Facts};
 use oracle::rng::Rng;
 use oracle::runs::Runs;
@@ -45,6 +47,7 @@ pub struct Bench {
     pub alignments: Alignments,
     pub runs: Runs,
     pub sights: Sights,
+    pub entry_sights: EntrySights,
     pub fdt_sights: fdt_sights::Sights,
     pub fdt_breaks: Breaks,
     pub fdt_finds: Finds,
@@ -76,6 +79,7 @@ impl Bench {
             alignments: Alignments::default(),
             runs: Runs::default(),
             sights: Sights::default(),
+            entry_sights: EntrySights::default(),
             fdt_sights: fdt_sights::Sights::default(),
             fdt_breaks: Breaks::default(),
             fdt_finds: Finds::default(),
@@ -118,14 +122,27 @@ impl Bench {
     }
 
     pub fn check(&mut self, list: &List) -> Result<(), String> {
+        self.checked(list)?;
+        Ok(())
+    }
+
+    /// The same; the answer that both gave.
+    pub fn checked(&mut self, list: &List) -> Result<Checked, String> {
         let mut area = self.guards.lend(&list.area);
         let wanted = model::check(&list.area, list.base);
         let given = library::check(&mut area, list.base);
         let asked = Asked { call: Call::Check, numbers: &|| format!("base {:#x}", list.base) };
-        self.judge(&asked, wanted, given, &[untouched("area", &list.area, &area)])
+        self.judge(&asked, wanted, given, &[untouched("area", &list.area, &area)])?;
+        Ok(given)
     }
 
     pub fn find(&mut self, list: &List, tag: u32, n: u64) -> Result<(), String> {
+        self.found(list, tag, n)?;
+        Ok(())
+    }
+
+    /// The same; the answer that both gave.
+    pub fn found(&mut self, list: &List, tag: u32, n: u64) -> Result<Found, String> {
         let mut area = self.guards.lend(&list.area);
         let wanted = model::find(&list.area, list.base, tag, n);
         let given = library::find(&mut area, list.base, tag, n);
@@ -133,7 +150,7 @@ impl Bench {
         let asked = Asked { call: Call::Find, numbers: &numbers };
         self.judge(&asked, wanted, given, &[untouched("area", &list.area, &area)])?;
         self.see_large(|large| large.found(Call::Find, &wanted));
-        Ok(())
+        Ok(given)
     }
 
     /// Lets a run on large lists count what it has met.
@@ -143,7 +160,8 @@ impl Bench {
         }
     }
 
-    /// Counts the call; a report where the answers differ or a buffer does not hold what it should.
+    /// Counts the call; a report where the answers differ, where the library's own does not say the bad
+    /// entry's place as it must, or where a buffer does not hold what it should.
     pub fn judge<A: Answer>(
         &mut self,
         asked: &Asked,
@@ -153,13 +171,17 @@ impl Bench {
     ) -> Result<(), String> {
         self.tally.count(asked.call, wanted.number());
         self.see_large(|large| large.call(asked.call, wanted.number(), buffers));
+        let area = buffers.iter().find(|buffer| buffer.name == "area").map(|buffer| buffer.before);
+        let place = demand_entry::after_call(area, given.number(), given.at());
         let byte = buffers.iter().find_map(|buffer| self.differing_byte(buffer));
-        if wanted == given && byte.is_none() {
+        if wanted == given && place.is_ok() && byte.is_none() {
+            self.entry_sights.count(asked.call, area, &given);
             return Ok(());
         }
         let bytes = byte.unwrap_or("every byte as wanted".to_string());
+        let place = place.err().map_or(String::new(), |broken| format!("\n  {broken}"));
         let inputs = asked.with_inputs(buffers);
-        Err(format!("{inputs}\n  model   {wanted:?}\n  library {given:?}\n  {bytes}"))
+        Err(format!("{inputs}\n  model   {wanted:?}\n  library {given:?}\n  {bytes}{place}"))
     }
 
     fn differing_byte(&self, buffer: &Buffer) -> Option<String> {

@@ -104,17 +104,17 @@ mod tests {
     fn other_answers_fail() {
         let listing = list(&SMALL, &[]);
         let asked = (&b"/"[..], &b"x"[..]);
-        let right = Found { number: 0, offset: 76, size: 3 };
+        let right = Found { number: 0, offset: 76, size: 3, at: 0 };
         assert_eq!(after_find(&SMALL, listing.as_ref(), asked, &right), Ok(()));
         for (number, offset, size) in
             [(0, 20, 3), (0, 80, 3), (0, 76, 4), (0, 100, 0), (13, 0, 0), (21, 0, 0)]
         {
-            let found = Found { number, offset, size };
+            let found = Found { number, offset, size, at: 0 };
             assert!(after_find(&SMALL, listing.as_ref(), asked, &found).is_err());
             assert!(number != 0 || !is_value_of(&SMALL, b"x", &found));
         }
         assert!(!is_value_of(&SMALL, b"", &right));
-        assert!(is_value_of(&SMALL, b"y", &Found { number: 0, offset: 100, size: 0 }));
+        assert!(is_value_of(&SMALL, b"y", &Found { number: 0, offset: 100, size: 0, at: 0 }));
         assert!(after_check(None, listing.as_ref()).is_err());
         assert!(after_check(read(&SMALL).as_ref(), None).is_err());
     }

@@ -15,11 +15,11 @@ fn with_zeros(text: &str, len: usize) -> Vec<u8> {
 }
 
 fn ok(value: u32) -> Done {
-    Done { number: 0, value }
+    Done { number: 0, value, at: 0 }
 }
 
 fn refused(number: u32) -> Done {
-    Done { number, value: 0 }
+    Done { number, value: 0, at: 0 }
 }
 
 fn created(len: usize) -> Vec<u8> {
@@ -180,7 +180,7 @@ fn j_exponents() {
         let base = (1 << 21) - 64;
         create(&mut area, base, true);
         let value = if number == 0 { 64 } else { 0 };
-        assert_eq!(add_aligned(&mut area, base, 4, &[9], exponent), Done { number, value });
+        assert_eq!(add_aligned(&mut area, base, 4, &[9], exponent), Done { number, value, at: 0 });
         if number == 0 {
             assert_eq!(area[24..56], with_zeros("00 00 00 08 18 00 00 00", 32));
             assert_eq!((area[7], check(&area, base).used), (exponent as u8, 72));
@@ -198,7 +198,7 @@ fn j_relocated() {
         let area = resealed(area);
         let value = if number == 0 { 56 } else { 0 };
         let target_base = (5 << 21) + BASE - 56;
-        assert_eq!(relocate(&area, BASE, &mut [0xa5; 80], target_base), Done { number, value });
+        assert_eq!(relocate(&area, BASE, &mut [0xa5; 80], target_base), Done { number, value, at: 0 });
         let short = if number == 0 { ROOM } else { SIZES };
         assert_eq!(relocate(&area, BASE, &mut [0xa5; 79], target_base), refused(short));
     }

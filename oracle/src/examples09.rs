@@ -59,13 +59,13 @@ fn summed(mut area: Vec<u8>) -> Vec<u8> {
 }
 
 fn refused(number: u32) -> Done {
-    Done { number, value: 0 }
+    Done { number, value: 0, at: 0 }
 }
 
 /// Converts to a target base of 0 and answers the target afterwards.
 fn converted(area: &[u8], base: u64, len: usize, shift: u32) -> Vec<u8> {
     let mut target = vec![0xa5; len];
-    assert_eq!(convert(area, base, &mut target, 0), Done { number: 0, value: shift });
+    assert_eq!(convert(area, base, &mut target, 0), Done { number: 0, value: shift, at: 0 });
     target
 }
 
@@ -80,9 +80,10 @@ fn new_lists() {
 
 #[test]
 fn an_entry() {
-    let wanted = Checked { number: 0, version: 1, used: 32, total: 64, alignment: 3, live: 1, voids: 0 };
+    let wanted =
+        Checked { number: 0, version: 1, used: 32, total: 64, alignment: 3, live: 1, voids: 0, at: 0 };
     assert_eq!(check(&with_entry(), BASE), wanted);
-    assert_eq!(find(&with_entry(), BASE, 1, 0), Found { number: 0, offset: 24, size: 3 });
+    assert_eq!(find(&with_entry(), BASE, 1, 0), Found { number: 0, offset: 24, size: 3, at: 0 });
     assert_eq!(find(&with_entry(), BASE, 1, 1).number, NONE);
     assert_eq!(find(&with_entry(), BASE, 0x100_0001, 0).number, TAG);
 }
@@ -90,7 +91,8 @@ fn an_entry() {
 #[test]
 fn a_void() {
     let area = with_zeros(WITH_VOID, 64);
-    let wanted = Checked { number: 0, version: 1, used: 32, total: 64, alignment: 3, live: 0, voids: 1 };
+    let wanted =
+        Checked { number: 0, version: 1, used: 32, total: 64, alignment: 3, live: 0, voids: 1, at: 0 };
     assert_eq!(check(&area, BASE), wanted);
     for data_size in [1, 7] {
         assert_eq!(check(&changed(area.clone(), 20, data_size), BASE).number, ENTRY);
@@ -156,9 +158,10 @@ fn a_later_version_has_longer_headers() {
     let text = "ff d0 6e 00 00 02 11 03 28 00 00 00 28 00 00 00 a5 a5 a5 a5 a5 a5 a5 a5 \
                 01 00 00 09 02 00 00 00 a5 aa bb a5 a5 a5 a5 a5";
     let area = summed(with_zeros(text, 40));
-    let wanted = Checked { number: 0, version: 2, used: 40, total: 40, alignment: 3, live: 1, voids: 0 };
+    let wanted =
+        Checked { number: 0, version: 2, used: 40, total: 40, alignment: 3, live: 1, voids: 0, at: 0 };
     assert_eq!(check(&area, BASE), wanted);
-    assert_eq!(find(&area, BASE, 1, 0), Found { number: 0, offset: 33, size: 2 });
+    assert_eq!(find(&area, BASE, 1, 0), Found { number: 0, offset: 33, size: 2, at: 0 });
     assert_eq!(convert(&area, BASE, &mut [0; 128], 0), refused(READONLY));
 }
 
@@ -197,7 +200,7 @@ fn converted_from_other_bases() {
     let area = changed(with_entry(), 7, 6);
     for (base, target_base, shift) in [(8, 0, 0), (8, 1, 63), (0x1040, 0x2001, 55), (0x1048, 0x2040, 0)] {
         let mut target = vec![0xa5; 128];
-        assert_eq!(convert(&area, base, &mut target, target_base), Done { number: 0, value: shift });
+        assert_eq!(convert(&area, base, &mut target, target_base), Done { number: 0, value: shift, at: 0 });
         let new_base = target_base + shift as u64;
         assert_eq!(model::find(&target[shift as usize..], new_base, 1, 0).offset, 32);
         assert_eq!((base + 24) % 64, (new_base + 32) % 64);
@@ -247,7 +250,10 @@ fn converted_with_alignment_13_and_21() {
         let area = changed(with_entry(), 7, alignment);
         let mut target = vec![0xa5; 64];
         let target_base = (6 << 21) - 24;
-        assert_eq!(convert(&area, (1 << 21) + 8, &mut target, target_base), Done { number, value: shift });
+        assert_eq!(
+            convert(&area, (1 << 21) + 8, &mut target, target_base),
+            Done { number, value: shift, at: 0 }
+        );
         assert_eq!(target[24 + 7] == alignment, number == 0);
         let short = if number == 0 { ROOM } else { SIZES };
         assert_eq!(convert(&area, (1 << 21) + 8, &mut target[..63], target_base), refused(short));

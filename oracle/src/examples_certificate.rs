@@ -65,11 +65,11 @@ fn judge(data: &[u8]) -> Certified {
 }
 
 fn accepted(pass: u32, reading: f64) -> Certified {
-    Certified { number: 0, pass, reading }
+    Certified { number: 0, pass, reading, at: 0 }
 }
 
 fn refused(number: u32) -> Certified {
-    Certified { number, pass: 0, reading: 0.0 }
+    Certified { number, pass: 0, reading: 0.0, at: 0 }
 }
 
 #[test]
@@ -224,14 +224,17 @@ fn order_of_refusals() {
 fn adds_carry_56_bytes() {
     for length in [0, 55, 57, 112] {
         let mut area = list(&[]);
-        let shape = Done { number: SHAPE, value: 0 };
+        let shape = Done { number: SHAPE, value: 0, at: 0 };
         assert_eq!(add(&mut area, BASE, CERTIFICATE_TAG, &vec![1; length], true), shape);
         assert_eq!(add_aligned(&mut area, BASE, CERTIFICATE_TAG, &vec![1; length], 22), shape);
         assert_eq!(area, list(&[]));
     }
     // What they carry is not judged, and a second one may be added.
     let mut area = list(&[]);
-    assert_eq!(add(&mut area, BASE, CERTIFICATE_TAG, &[0xff; 56], true), Done { number: 0, value: 32 });
-    assert_eq!(add_aligned(&mut area, BASE, CERTIFICATE_TAG, &BAND, 3), Done { number: 0, value: 96 });
+    assert_eq!(
+        add(&mut area, BASE, CERTIFICATE_TAG, &[0xff; 56], true),
+        Done { number: 0, value: 32, at: 0 }
+    );
+    assert_eq!(add_aligned(&mut area, BASE, CERTIFICATE_TAG, &BAND, 3), Done { number: 0, value: 96, at: 0 });
     assert_eq!(certificate(&area, BASE, SERIAL, TEST), refused(NOT_ONE));
 }

@@ -23,7 +23,7 @@ fn new_list() -> Vec<u8> {
 fn lengths_under_4_are_shape() {
     for length in 0..4 {
         let mut area = new_list();
-        let refused = Done { number: SHAPE, value: 0 };
+        let refused = Done { number: SHAPE, value: 0, at: 0 };
         assert_eq!(add(&mut area, BASE, 5, &DATA[..length], true), refused);
         assert_eq!(add_aligned(&mut area, BASE, 5, &DATA[..length], 4), refused);
         assert_eq!(area, new_list());
@@ -32,7 +32,7 @@ fn lengths_under_4_are_shape() {
 
 #[test]
 fn lengths_4_and_5_are_added() {
-    let added = Done { number: 0, value: 32 };
+    let added = Done { number: 0, value: 32, at: 0 };
     let four = [5, 0, 0, 8, 4, 0, 0, 0, 1, 0, 0, 0];
     let five = [5, 0, 0, 8, 5, 0, 0, 0, 1, 0, 0, 0, 0x5a];
     for (length, entry, checksum) in [(4, &four[..], 0xf4), (5, &five[..], 0xaf)] {
@@ -70,7 +70,8 @@ fn shape_comes_before_align_and_room() {
 #[test]
 fn a_shorter_one_is_read() {
     let area = list(0xf2, 3, 40, &[5, 0, 0, 8, 3, 0, 0, 0, 1, 2, 3]);
-    let wanted = Checked { number: 0, version: 1, used: 40, total: 48, alignment: 3, live: 1, voids: 0 };
+    let wanted =
+        Checked { number: 0, version: 1, used: 40, total: 48, alignment: 3, live: 1, voids: 0, at: 0 };
     assert_eq!(check(&area, BASE), wanted);
-    assert_eq!(find(&area, BASE, 5, 0), Found { number: 0, offset: 32, size: 3 });
+    assert_eq!(find(&area, BASE, 5, 0), Found { number: 0, offset: 32, size: 3, at: 0 });
 }

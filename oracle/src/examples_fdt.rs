@@ -58,11 +58,11 @@ fn spread(at: usize, bytes: &[u8], fields: &[(usize, u32)]) -> Vec<u8> {
 }
 
 fn found(offset: u32, size: u32) -> Found {
-    Found { number: 0, offset, size }
+    Found { number: 0, offset, size, at: 0 }
 }
 
 fn refused(number: u32) -> Found {
-    Found { number, offset: 0, size: 0 }
+    Found { number, offset: 0, size: 0, at: 0 }
 }
 
 #[test]

@@ -25,11 +25,11 @@ fn numbers(structures: &[&[u32]], number: u32) {
 }
 
 fn found(offset: u32, size: u32) -> Found {
-    Found { number: 0, offset, size }
+    Found { number: 0, offset, size, at: 0 }
 }
 
 fn none() -> Found {
-    Found { number: NONE, offset: 0, size: 0 }
+    Found { number: NONE, offset: 0, size: 0, at: 0 }
 }
 
 #[test]

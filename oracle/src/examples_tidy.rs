@@ -17,7 +17,7 @@ fn filled(text: &str, last: u8, len: usize) -> Vec<u8> {
 }
 
 fn ok(value: u32) -> Done {
-    Done { number: 0, value }
+    Done { number: 0, value, at: 0 }
 }
 
 /// The list before is accepted, and a tidy makes it the one after; tidying it again changes nothing.
@@ -169,11 +169,12 @@ fn an_add_finds_room_at_the_end() {
 /// "Checks 1 to 8 apply, 5 included", in their order; a refused tidy changes no byte.
 #[test]
 fn refusals() {
-    let refused = |area: &[u8], base: u64, number: u32| {
+    let refused_at = |area: &[u8], base: u64, number: u32, at: u32| {
         let mut after = area.to_vec();
-        assert_eq!(tidy(&mut after, base), Done { number, value: 0 });
+        assert_eq!(tidy(&mut after, base), Done { number, value: 0, at });
         assert_eq!(after, area);
     };
+    let refused = |area: &[u8], base: u64, number: u32| refused_at(area, base, number, 0);
     let list = filled(D, 0, 64);
     let with = |changes: &[(usize, u8)]| {
         let mut area = list.clone();
@@ -195,6 +196,6 @@ fn refusals() {
     refused(&list[..56], BASE, SIZES);
     refused(&with(&[(4, 0), (36, 4)]), BASE, CHECKSUM);
     refused(&with(&[(16, 0)]), BASE, CHECKSUM);
-    // The void's data_size is 4, which 8 bytes do not hold and no void may have: 8e ^ 04.
-    refused(&with(&[(36, 4), (4, 0x8a)]), BASE, ENTRY);
+    // The void's data_size is 4, which 8 bytes do not hold and no void may have: 8e ^ 04. It starts at 32.
+    refused_at(&with(&[(36, 4), (4, 0x8a)]), BASE, ENTRY, 32);
 }

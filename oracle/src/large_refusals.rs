@@ -113,7 +113,29 @@ impl Bench {
         }
         let plan = Plan { has_checksum: false, ..Plan::current(LONGEST) };
         self.faults(&[(CHECKSUM, |list| list.area[field::CHECKSUM] = 1)], false, &one(&plan))?;
+        self.places_of_bad_entries()?;
         self.tags_and_shapes()
+    }
+
+    /// The 2,000,000th of many entries and the last, at their places as they are worked out by hand.
+    fn places_of_bad_entries(&mut self) -> Result<(), String> {
+        let spoils: [fn(&mut List); 2] = [|list| late(list)[3] = 7, |list| list.area[LONGEST - 4] = 1];
+        let (current, old) = ([16_000_016, 16_777_208], [16_000_008, 16_777_208]);
+        for (plan, places) in [(Plan::current(LONGEST), current), (Plan::old(LONGEST), old)] {
+            for (spoil, place) in spoils.into_iter().zip(places) {
+                let mut list = many(&plan);
+                spoil(&mut list);
+                restore_checksum(list.edition, &mut list.area);
+                let checked = match list.edition {
+                    Edition::Current => self.checked(&list)?,
+                    Edition::E09 => self.checked09(&list)?,
+                };
+                if (checked.number, checked.at) != (ENTRY, place) {
+                    return Err(format!("a large list's bad entry is at {place}: {checked:?}"));
+                }
+            }
+        }
+        Ok(())
     }
 
     /// Tags, and lengths for a tag, that either add refuses, although there would be room.

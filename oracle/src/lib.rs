@@ -1,4 +1,4 @@
-//! The second implementation of document 01 and of document 02, requests 1 to 3 and 5 to 7: the model of
+//! The second implementation of document 01 and of document 02, requests 1 to 3 and 5 to 8: the model of
 //! their jobs, the lists and device trees it is tried on, and what is demanded of a result said once more.
 //! Nothing here needs the library under test.
 
@@ -12,8 +12,10 @@ pub mod damage;
 pub mod demand;
 pub mod demand09;
 pub mod demand_certificate;
+pub mod demand_entry;
 pub mod demand_fdt;
 pub mod demand_tidy;
+pub mod entry_sights;
 pub mod exact;
 pub mod fdt_asked;
 pub mod fdt_breaks;
@@ -31,6 +33,7 @@ pub mod fdt_trees;
 pub mod lists;
 pub mod lists09;
 pub mod lists_certificate;
+pub mod lists_entry;
 pub mod model;
 pub mod model09;
 pub mod model_certificate;
@@ -48,6 +51,8 @@ mod examples;
 mod examples09;
 #[cfg(test)]
 mod examples_certificate;
+#[cfg(test)]
+mod examples_entry;
 #[cfg(test)]
 mod examples_event_log;
 #[cfg(test)]

@@ -32,14 +32,20 @@ pub struct Row {
 
 /// A list of any kind; one in five is of edition 0.9.
 pub fn any(rng: &mut Rng) -> List {
+    any_as_made(rng).0
+}
+
+/// The same, and where its entries stood when it was made, before anything was spoiled.
+pub fn any_as_made(rng: &mut Rng) -> (List, Vec<usize>) {
     let mut list = if rng.once_in(5) { lists09::whole(rng) } else { whole(rng) };
+    let places = rows(&list.area).iter().map(|row| row.place).collect();
     if rng.once_in(2) {
         spoil(rng, &mut list);
         if rng.once_in(4) {
             spoil(rng, &mut list);
         }
     }
-    list
+    (list, places)
 }
 
 fn whole(rng: &mut Rng) -> List {

@@ -1,4 +1,4 @@
-//! Compares libtransfer_list.a with the model of document 01 and of document 02, requests 1 to 3 and 5 to 7,
+//! Compares libtransfer_list.a with the model of document 01 and of document 02, requests 1 to 3 and 5 to 8,
 //! on many lists and device trees; and on large ones.
 //!
 //! `oracle [LISTS [SEED]]`; the list after that of seed S is the one of seed S + 1.
@@ -11,6 +11,8 @@ mod compare;
 mod edges09;
 mod edges_added_certificate;
 mod edges_certificate;
+mod edges_entry;
+mod edges_entry_refusals;
 mod edges_event_log;
 mod edges_fdt;
 mod edges_fdt_large;
@@ -87,8 +89,9 @@ fn run(lists: u64, seed: u64) -> Result<(), String> {
     for index in 0..lists {
         one_list(&mut bench, seed.wrapping_add(index)).map_err(|report| format!("list {index}: {report}"))?;
     }
-    // The edges have their runs of voids and their alignments on purpose; these were met by chance.
+    // The edges have their runs of voids, alignments and bad entries on purpose; these were met by chance.
     let (runs, alignments) = (std::mem::take(&mut bench.runs), std::mem::take(&mut bench.alignments));
+    let bad_entries = std::mem::take(&mut bench.entry_sights);
     bench.edges09()?;
     bench.edges_event_log()?;
     bench.edges_tidy()?;
@@ -98,12 +101,15 @@ fn run(lists: u64, seed: u64) -> Result<(), String> {
     bench.edges_reading(seed)?;
     bench.huge_lengths()?;
     bench.device_trees(seed)?;
+    bench.edges_entry()?;
     println!("{}\n{}\n{}", bench.tally.table(), alignments.table(), bench.event_logs.table());
     println!("{}\n{}\n{}", bench.added_certificates.table(), runs.table(), bench.sights.table());
     println!("{}\n{}\n{}", bench.fdt_sights.table(), bench.fdt_finds.table(), bench.fdt_breaks.table());
+    println!("{}\n{}", bad_entries.table("8, by chance"), bench.entry_sights.table("8, on purpose"));
     let adds = [alignments.unseen(), bench.event_logs.unseen(), bench.added_certificates.unseen()].concat();
     let trees = [bench.fdt_sights.unseen(), bench.fdt_finds.unseen(), bench.fdt_breaks.unseen()].concat();
-    let unseen = [bench.tally.unseen(), adds, runs.unseen(), bench.sights.unseen(), trees].concat();
+    let entries = [runs.unseen(), bench.entry_sights.unseen(), bench.sights.unseen()].concat();
+    let unseen = [bench.tally.unseen(), adds, entries, trees].concat();
     if !unseen.is_empty() {
         return Err(unseen.join("\n"));
     }
@@ -117,7 +123,8 @@ fn run(lists: u64, seed: u64) -> Result<(), String> {
 fn one_list(bench: &mut Bench, seed: u64) -> Result<(), String> {
     watch::list(seed);
     let mut rng = Rng::new(seed);
-    let list = lists::any(&mut rng);
+    let (list, made) = lists::any_as_made(&mut rng);
+    bench.entry_sights.turn_to(made);
     bench.list(&mut rng, &list).map_err(|report| format!("{report}\n{}", again(seed)))
 }
 

@@ -1,7 +1,8 @@
 //! The seven jobs of document 01, each sentence written down plainly; the tag table as document 02,
-//! requests 2 and 5, amends it, the longest area and the highest alignment as request 7 does. The checks 1
-//! to 8, check and find serve lists of edition 0.9 too (document 02, request 1); `model09` has what is
-//! theirs alone, `model_tidy` the job of request 3, and `model_certificate` that of request 5.
+//! requests 2 and 5, amends it, the longest area and the highest alignment as request 7 does, and what a
+//! refusal answers as request 8 does. The checks 1 to 8, check and find serve lists of edition 0.9 too
+//! (document 02, request 1); `model09` has what is theirs alone, `model_tidy` the job of request 3, and
+//! `model_certificate` that of request 5.
 //!
 //! "All sums here are whole-number sums; none wraps": every sum is made in u128, where the largest
 //! address and the largest length together stay far below the limit.
@@ -24,9 +25,25 @@ pub const TARGET: u32 = 12;
 pub const NONE: u32 = 13;
 pub const ROOM: u32 = 14;
 
-/// Every answer holds the number: 0 or that of the refusal.
+/// What turns a call away: its number, and "the offset of the first entry that breaks a rule"; "other
+/// refusals answer 0 there" (document 02, request 8).
+#[derive(Clone, Copy, Debug, PartialEq, Eq)]
+pub(crate) struct Refusal {
+    pub(crate) number: u32,
+    pub(crate) at: u32,
+}
+
+/// Every refusal but that of the walk.
+impl From<u32> for Refusal {
+    fn from(number: u32) -> Refusal {
+        Refusal { number, at: 0 }
+    }
+}
+
+/// Every answer holds the number, 0 or that of the refusal, and says where the bad entry is.
 pub trait Answer: Copy + PartialEq + std::fmt::Debug {
     fn number(&self) -> u32;
+    fn at(&self) -> u32;
 }
 
 /// What check answers.
@@ -40,6 +57,7 @@ pub struct Checked {
     pub alignment: u32,
     pub live: u32,
     pub voids: u32,
+    pub at: u32,
 }
 
 /// What find answers.
@@ -49,6 +67,7 @@ pub struct Found {
     pub number: u32,
     pub offset: u32,
     pub size: u32,
+    pub at: u32,
 }
 
 /// What an edit answers.
@@ -57,11 +76,16 @@ pub struct Found {
 pub struct Done {
     pub number: u32,
     pub value: u32,
+    pub at: u32,
 }
 
 impl Answer for Checked {
     fn number(&self) -> u32 {
         self.number
+    }
+
+    fn at(&self) -> u32 {
+        self.at
     }
 }
 
@@ -69,11 +93,19 @@ impl Answer for Found {
     fn number(&self) -> u32 {
         self.number
     }
+
+    fn at(&self) -> u32 {
+        self.at
+    }
 }
 
 impl Answer for Done {
     fn number(&self) -> u32 {
         self.number
+    }
+
+    fn at(&self) -> u32 {
+        self.at
     }
 }
 
@@ -261,13 +293,16 @@ impl Header {
             && (entry.is_live() || entry.data_size.is_multiple_of(8))
     }
 
-    /// Walks from the first entry; "the list ends where the place equals used_size".
-    fn walk(&self, area: &[u8]) -> Result<Vec<Entry>, u32> {
+    /// Walks from the first entry; "the list ends where the place equals used_size". "The walk's refusal is
+    /// to carry the offset of the first entry that breaks a rule."
+    fn walk(&self, area: &[u8]) -> Result<Vec<Entry>, Refusal> {
         let mut entries = Vec::new();
         let mut place = self.first_place();
         while place < self.used_size {
             let entry = Entry::read(area, place);
-            refuse_if(!self.entry_holds(&entry), ENTRY)?;
+            if !self.entry_holds(&entry) {
+                return Err(Refusal { number: ENTRY, at: place as u32 });
+            }
             place += entry.stretch();
             entries.push(entry);
         }
@@ -321,7 +356,7 @@ pub(crate) struct List {
 
 impl List {
     /// "All other calls make 1 to 8 on the given list", in the order of the numbers.
-    fn open(edition: Edition, area: &[u8], base: u64, edits: bool) -> Result<List, u32> {
+    fn open(edition: Edition, area: &[u8], base: u64, edits: bool) -> Result<List, Refusal> {
         refuse_if(!usable(area.len(), base), AREA)?;
         refuse_if(area.len() < edition.hdr_size(), SHORT)?;
         let header = Header::read(area, edition);
@@ -334,12 +369,12 @@ impl List {
         Ok(List { header, entries })
     }
 
-    pub(crate) fn open_to_read(edition: Edition, area: &[u8], base: u64) -> Result<List, u32> {
+    pub(crate) fn open_to_read(edition: Edition, area: &[u8], base: u64) -> Result<List, Refusal> {
         List::open(edition, area, base, false)
     }
 
     /// READONLY is for "add, add aligned, void or relocate", for a conversion and for tidy.
-    pub(crate) fn open_to_edit(edition: Edition, area: &[u8], base: u64) -> Result<List, u32> {
+    pub(crate) fn open_to_edit(edition: Edition, area: &[u8], base: u64) -> Result<List, Refusal> {
         List::open(edition, area, base, true)
     }
 
@@ -432,11 +467,11 @@ pub(crate) fn put_checksum(list: &mut [u8]) {
 }
 
 /// "An accepted call answers number 0. A refusal answers its number with every other number in the
-/// answer 0."
-pub(crate) fn done(result: Result<u128, u32>) -> Done {
+/// answer 0", amended by request 8 "for refusal 8 only".
+pub(crate) fn done(result: Result<u128, Refusal>) -> Done {
     match result {
-        Ok(value) => Done { number: 0, value: value as u32 },
-        Err(number) => Done { number, value: 0 },
+        Ok(value) => Done { value: value as u32, ..Done::default() },
+        Err(Refusal { number, at }) => Done { number, at, ..Done::default() },
     }
 }
 
@@ -447,7 +482,7 @@ pub fn check(area: &[u8], base: u64) -> Checked {
 
 pub(crate) fn check_by(edition: Edition, area: &[u8], base: u64) -> Checked {
     match List::open_to_read(edition, area, base) {
-        Err(number) => Checked { number, ..Checked::default() },
+        Err(Refusal { number, at }) => Checked { number, at, ..Checked::default() },
         Ok(list) => Checked {
             number: 0,
             version: list.header.version as u32,
@@ -456,6 +491,7 @@ pub(crate) fn check_by(edition: Edition, area: &[u8], base: u64) -> Checked {
             alignment: list.header.alignment as u32,
             live: list.count(true),
             voids: list.count(false),
+            at: 0,
         },
     }
 }
@@ -467,12 +503,12 @@ pub fn find(area: &[u8], base: u64, tag: u32, n: u64) -> Found {
 
 pub(crate) fn find_by(edition: Edition, area: &[u8], base: u64, tag: u32, n: u64) -> Found {
     match try_find(edition, area, base, tag, n) {
-        Ok((offset, size)) => Found { number: 0, offset: offset as u32, size: size as u32 },
-        Err(number) => Found { number, ..Found::default() },
+        Ok((offset, size)) => Found { offset: offset as u32, size: size as u32, ..Found::default() },
+        Err(Refusal { number, at }) => Found { number, at, ..Found::default() },
     }
 }
 
-fn try_find(edition: Edition, area: &[u8], base: u64, tag: u32, n: u64) -> Result<(u128, u128), u32> {
+fn try_find(edition: Edition, area: &[u8], base: u64, tag: u32, n: u64) -> Result<(u128, u128), Refusal> {
     let list = List::open_to_read(edition, area, base)?;
     check_tag(tag)?;
     let entry = list.occurrence(tag, n)?;
@@ -485,7 +521,7 @@ pub fn create(area: &mut [u8], base: u64, has_checksum: bool) -> Done {
     done(try_create(area, base, has_checksum))
 }
 
-fn try_create(area: &mut [u8], base: u64, has_checksum: bool) -> Result<u128, u32> {
+fn try_create(area: &mut [u8], base: u64, has_checksum: bool) -> Result<u128, Refusal> {
     refuse_if(!usable(area.len(), base), AREA)?;
     refuse_if(area.len() <= 24, SHORT)?;
     area.fill(0);
@@ -513,7 +549,7 @@ pub fn add(area: &mut [u8], base: u64, tag: u32, data: &[u8], use_voids: bool) -
     done(try_add(area, base, tag, data, use_voids))
 }
 
-fn try_add(area: &mut [u8], base: u64, tag: u32, data: &[u8], use_voids: bool) -> Result<u128, u32> {
+fn try_add(area: &mut [u8], base: u64, tag: u32, data: &[u8], use_voids: bool) -> Result<u128, Refusal> {
     let list = List::open_to_edit(Edition::Current, area, base)?;
     check_new_tag(tag)?;
     check_shape(tag, data)?;
@@ -553,7 +589,13 @@ pub fn add_aligned(area: &mut [u8], base: u64, tag: u32, data: &[u8], exponent: 
     done(try_add_aligned(area, base, tag, data, exponent))
 }
 
-fn try_add_aligned(area: &mut [u8], base: u64, tag: u32, data: &[u8], exponent: u32) -> Result<u128, u32> {
+fn try_add_aligned(
+    area: &mut [u8],
+    base: u64,
+    tag: u32,
+    data: &[u8],
+    exponent: u32,
+) -> Result<u128, Refusal> {
     let header = List::open_to_edit(Edition::Current, area, base)?.header;
     check_new_tag(tag)?;
     check_shape(tag, data)?;
@@ -590,7 +632,7 @@ pub fn void(area: &mut [u8], base: u64, tag: u32, n: u64) -> Done {
     done(try_void(area, base, tag, n))
 }
 
-fn try_void(area: &mut [u8], base: u64, tag: u32, n: u64) -> Result<u128, u32> {
+fn try_void(area: &mut [u8], base: u64, tag: u32, n: u64) -> Result<u128, Refusal> {
     let list = List::open_to_edit(Edition::Current, area, base)?;
     check_tag(tag)?;
     let entry = list.occurrence(tag, n)?;
@@ -604,7 +646,7 @@ pub fn relocate(area: &[u8], base: u64, target: &mut [u8], target_base: u64) -> 
     done(try_relocate(area, base, target, target_base))
 }
 
-fn try_relocate(area: &[u8], base: u64, target: &mut [u8], target_base: u64) -> Result<u128, u32> {
+fn try_relocate(area: &[u8], base: u64, target: &mut [u8], target_base: u64) -> Result<u128, Refusal> {
     let header = List::open_to_edit(Edition::Current, area, base)?.header;
     refuse_if(!within_limits(target.len(), target_base), TARGET)?;
     let shift = new_base(base, target_base, header.alignment) - target_base as u128;

@@ -4,7 +4,8 @@
 //! "Refusals 1 to 8 keep their numbers and order, with 16 for 24 and `size`, `max_size` for used and
 //! total. Entries are read as in a current list": the model of document 01 makes these checks.
 
-use crate::model::{self, field, put_u32, refuse_if, within_limits, Checked, Done, Edition, Found, List};
+use crate::model::{self, field, put_u32, refuse_if, within_limits};
+use crate::model::{Checked, Done, Edition, Found, List, Refusal};
 
 /// Answers `size` and `max_size` as used and total.
 pub fn check(area: &[u8], base: u64) -> Checked {
@@ -20,7 +21,7 @@ pub fn convert(area: &[u8], base: u64, target: &mut [u8], target_base: u64) -> D
     model::done(try_convert(area, base, target, target_base))
 }
 
-fn try_convert(area: &[u8], base: u64, target: &mut [u8], target_base: u64) -> Result<u128, u32> {
+fn try_convert(area: &[u8], base: u64, target: &mut [u8], target_base: u64) -> Result<u128, Refusal> {
     let header = List::open_to_edit(Edition::E09, area, base)?.header;
     // "TARGET and ROOM apply as in relocation, with used being size + 8."
     refuse_if(!within_limits(target.len(), target_base), model::TARGET)?;

@@ -4,7 +4,7 @@
 //! "Refusals after 1 to 8": the model of document 01 makes those, and 5 is none of them, since nothing is
 //! edited.
 
-use crate::model::{read_u32, refuse_if, Answer, Edition, List, CERTIFICATE_TAG};
+use crate::model::{read_u32, refuse_if, Answer, Edition, List, Refusal, CERTIFICATE_TAG};
 
 // The three refusals that are this call's own.
 /// "Unless exactly one entry of the list has this tag and that one is 56 bytes long."
@@ -24,12 +24,13 @@ pub struct Certified {
     pub number: u32,
     pub pass: u32,
     pub reading: f64,
+    pub at: u32,
 }
 
 /// Equal in every bit of the reading too.
 impl PartialEq for Certified {
     fn eq(&self, other: &Certified) -> bool {
-        let whole = |answer: &Certified| (answer.number, answer.pass, answer.reading.to_bits());
+        let whole = |answer: &Certified| (answer.number, answer.pass, answer.reading.to_bits(), answer.at);
         whole(self) == whole(other)
     }
 }
@@ -37,6 +38,10 @@ impl PartialEq for Certified {
 impl Answer for Certified {
     fn number(&self) -> u32 {
         self.number
+    }
+
+    fn at(&self) -> u32 {
+        self.at
     }
 }
 
@@ -98,17 +103,17 @@ fn read_f64(data: &[u8], offset: usize) -> f64 {
 
 pub fn certificate(area: &[u8], base: u64, serial: u64, test: u64) -> Certified {
     match try_certificate(area, base, serial, test) {
-        Ok((reading, passes)) => Certified { number: 0, pass: u32::from(passes), reading },
-        Err(number) => Certified { number, ..Certified::default() },
+        Ok((reading, passes)) => Certified { pass: u32::from(passes), reading, ..Certified::default() },
+        Err(Refusal { number, at }) => Certified { number, at, ..Certified::default() },
     }
 }
 
-fn try_certificate(area: &[u8], base: u64, serial: u64, test: u64) -> Result<(f64, bool), u32> {
+fn try_certificate(area: &[u8], base: u64, serial: u64, test: u64) -> Result<(f64, bool), Refusal> {
     let list = List::open_to_read(Edition::Current, area, base)?;
     let start = lone_certificate(&list)? as usize;
     let data = &area[start..start + LENGTH];
     refuse_if(read_u64(data, 0) != serial || read_u64(data, 8) != test, NOT_ASKED)?;
-    judge(data).ok_or(NOT_SOUND)
+    Ok(judge(data).ok_or(NOT_SOUND)?)
 }
 
 /// Where the data of the one certificate starts.

@@ -27,6 +27,10 @@ impl Answer for u32 {
     fn number(&self) -> u32 {
         *self
     }
+
+    fn at(&self) -> u32 {
+        0
+    }
 }
 
 /// "A node holds members, and a member may be a node."
@@ -63,7 +67,7 @@ pub fn answer(root: Option<&Node>, path: &[u8], name: &[u8]) -> Found {
     };
     match names(path).and_then(|names| root.first(&names, name)) {
         None => Found { number: NONE, ..Found::default() },
-        Some(it) => Found { number: 0, offset: it.offset as u32, size: it.value.len() as u32 },
+        Some(it) => Found { offset: it.offset as u32, size: it.value.len() as u32, ..Found::default() },
     }
 }
 

@@ -4,7 +4,7 @@
 //!
 //! "Checks 1 to 8 apply, 5 included": the model of document 01 makes them. There is no other refusal.
 
-use crate::model::{self, field, put_u32, Done, Edition, Entry, List};
+use crate::model::{self, field, put_u32, Done, Edition, Entry, List, Refusal};
 use std::ops::Range;
 
 /// "The answer is the new used size."
@@ -12,7 +12,7 @@ pub fn tidy(area: &mut [u8], base: u64) -> Done {
     model::done(try_tidy(area, base))
 }
 
-fn try_tidy(area: &mut [u8], base: u64) -> Result<u128, u32> {
+fn try_tidy(area: &mut [u8], base: u64) -> Result<u128, Refusal> {
     let list = List::open_to_edit(Edition::Current, area, base)?;
     let end = list.header.used_size;
     let mut used = end;

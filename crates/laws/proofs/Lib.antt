@@ -1,6 +1,8 @@
 -- Laws of the written rules, in the order of these lines.
 pub mod Walk
 pub mod Check
+pub mod BadEntry
+pub mod PassedUp
 pub mod Passed
 pub mod Row
 pub mod Lists

@@ -93,12 +93,13 @@ pub data Without (P : Item → Type 0) : List Item → Type 0 where
   nothing : Without P []
   other : {y : Item} {ys : List Item} → (P y → ⊥) → Without P ys → Without P (y ∷ ys)
 
--- find's answer: the value's offset from the data's start and its size; of a refusal the number, 13 for NONE
+-- find's answer: the value's offset from the data's start and its size; of a refusal the number, 13 for NONE. There is no list check here,
+-- so the place that request 8 adds is 0
 abbrev pub foundAt : ℕ → ℕ → FindAnswer
-foundAt offset size = record { number = 0; offset = offset; size = size }
+foundAt offset size = record { number = 0; offset = offset; size = size; at = 0 }
 
 abbrev pub refusedWith : ℕ → FindAnswer
-refusedWith number = record { number = number; offset = 0; size = 0 }
+refusedWith number = record { number = number; offset = 0; size = 0; at = 0 }
 
 -- "21 comes first, then NONE": none under any names that the path has; "any other path", which has none, so "finds nothing"
 pub data Lookup (d path name : List ℕ) : FindAnswer → Type 0 where

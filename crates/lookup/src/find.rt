@@ -22,6 +22,7 @@ fn refused(number: u32) -> FindAnswer
         number,
         offset: 0,
         size: 0,
+        at: 0,
     }
 }
 
@@ -42,6 +43,7 @@ fn search(data: &[u8], path: &[u8], name: &[u8]) -> FindAnswer
                 number: 0,
                 offset,
                 size,
+                at: 0,
             }
         }
         Hit::After(_) => refused(NONE),

@@ -229,7 +229,7 @@ pub record Shown : Type 0 where
 abbrev after : List ℕ → Outcome → Shown
 after before o =
     let n : DoneAnswer = doneAnswer (answer o) in
-    record { numbers = n .number ∷ n .value ∷ []; bytes = bytesAfter before o }
+    record { numbers = n .number ∷ n .value ∷ n .at ∷ []; bytes = bytesAfter before o }
 
 -- of an edit of a list at 0x1000
 abbrev shownBy : Edit → List ℕ → Shown
@@ -244,7 +244,7 @@ abbrev checked : List ℕ → Shown
 checked a =
     let n : CheckAnswer = checkAnswer (check a 0x1000) in
     record {
-      numbers = n .number ∷ n .version ∷ n .used ∷ n .total ∷ n .alignment ∷ n .live ∷ n .voids ∷ [];
+      numbers = n .number ∷ n .version ∷ n .used ∷ n .total ∷ n .alignment ∷ n .live ∷ n .voids ∷ n .at ∷ [];
       bytes = a;
     }
 
@@ -256,8 +256,9 @@ judged len = record { numbers = cond (refusesArea 0x1000 len) (numberOf Area) 0 
 abbrev first : ℕ → Shown → Shown
 first n s = record { numbers = s .numbers; bytes = take n (s .bytes) }
 
+-- number and value, and 0 for request 8's place, since no example is refused with 8
 abbrev shows : ℕ → ℕ → List ℕ → Shown
-shows number value bytes = record { numbers = number ∷ value ∷ []; bytes = bytes }
+shows number value bytes = record { numbers = number ∷ value ∷ 0 ∷ []; bytes = bytes }
 
 -- a row: what the rules compute, and what the paper says
 pub record Example : Type 0 where
@@ -310,12 +311,12 @@ table =
     ∷ (judged 16777216 is record { numbers = 0 ∷ []; bytes = [] })
     ∷ (judged 16777217 is record { numbers = 1 ∷ []; bytes = [] })
     -- J: alignment fields 2 and 22 are SIZES; 3, 12, 13 and 21 pass
-    ∷ (checked (areaJ 2 0xbd) is record { numbers = 6 ∷ replicate 6 0; bytes = areaJ 2 0xbd })
-    ∷ (checked (areaJ 22 0xa9) is record { numbers = 6 ∷ replicate 6 0; bytes = areaJ 22 0xa9 })
-    ∷ (checked areaA is record { numbers = 0 ∷ 1 ∷ 24 ∷ 64 ∷ 3 ∷ 0 ∷ 0 ∷ []; bytes = areaA })
-    ∷ (checked (areaJ 12 0xb3) is record { numbers = 0 ∷ 1 ∷ 24 ∷ 64 ∷ 12 ∷ 0 ∷ 0 ∷ []; bytes = areaJ 12 0xb3 })
-    ∷ (checked (areaJ 13 0xb2) is record { numbers = 0 ∷ 1 ∷ 24 ∷ 64 ∷ 13 ∷ 0 ∷ 0 ∷ []; bytes = areaJ 13 0xb2 })
-    ∷ (checked (areaJ 21 0xaa) is record { numbers = 0 ∷ 1 ∷ 24 ∷ 64 ∷ 21 ∷ 0 ∷ 0 ∷ []; bytes = areaJ 21 0xaa })
+    ∷ (checked (areaJ 2 0xbd) is record { numbers = 6 ∷ replicate 7 0; bytes = areaJ 2 0xbd })
+    ∷ (checked (areaJ 22 0xa9) is record { numbers = 6 ∷ replicate 7 0; bytes = areaJ 22 0xa9 })
+    ∷ (checked areaA is record { numbers = 0 ∷ 1 ∷ 24 ∷ 64 ∷ 3 ∷ 0 ∷ 0 ∷ 0 ∷ []; bytes = areaA })
+    ∷ (checked (areaJ 12 0xb3) is record { numbers = 0 ∷ 1 ∷ 24 ∷ 64 ∷ 12 ∷ 0 ∷ 0 ∷ 0 ∷ []; bytes = areaJ 12 0xb3 })
+    ∷ (checked (areaJ 13 0xb2) is record { numbers = 0 ∷ 1 ∷ 24 ∷ 64 ∷ 13 ∷ 0 ∷ 0 ∷ 0 ∷ []; bytes = areaJ 13 0xb2 })
+    ∷ (checked (areaJ 21 0xaa) is record { numbers = 0 ∷ 1 ∷ 24 ∷ 64 ∷ 21 ∷ 0 ∷ 0 ∷ 0 ∷ []; bytes = areaJ 21 0xaa })
     ∷ []
 
 -- the claim

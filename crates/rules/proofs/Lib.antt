@@ -2,3 +2,4 @@ pub mod Bools
 pub mod Examples
 pub mod TidyExamples
 pub mod CertificateExamples
+pub mod BadEntryExamples

@@ -19,7 +19,7 @@ use Rattle.rules.specs.declared.certificate.Certified.{Certified}
 use Rattle.rules.specs.declared.certificate.Certified.the-variants.{Read, Refused, NotOne, Another, Unsound}
 use Rattle.rules.specs.declared.certificate.CertifiedAnswer.{CertifiedAnswer}
 use Rattle.rules.specs.Entries.{entriesOf}
-use Rattle.rules.specs.Refusals.{numberOf}
+use Rattle.rules.specs.Refusals.{numberOf, placeOf}
 use Rattle.rules.specs.Tags.{certificateTag, certificateSize}
 use Rattle.rules.specs.Check.{check}
 use Rattle.rules.specs.Demand3.{liveAt}
@@ -168,14 +168,14 @@ afterChecks (checked.Refused r) x = Refused r
 unfoldable pub certify : List ℕ → ℕ → ℕ → ℕ → Certified
 certify a base serial test = afterChecks (check a base) (certifiedIn a serial test (tagged certificateTag (entriesOf a)))
 
--- (document 01) "A refusal answers its number with every other number in the answer 0"
-abbrev pub refusedAnswer : ℕ → CertifiedAnswer
-refusedAnswer n = record { number = n; pass = 0; reading = plusZero }
+-- (document 01) "A refusal answers its number with every other number in the answer 0"; as amended by request 8, but for the place
+abbrev pub refusedAnswer : ℕ → ℕ → CertifiedAnswer
+refusedAnswer n at = record { number = n; pass = 0; reading = plusZero; at = at }
 
 -- the answer in numbers
 abbrev pub certifiedAnswer : Certified → CertifiedAnswer
-certifiedAnswer (Read x pass) = record { number = 0; pass = cond pass 1 0; reading = x }
-certifiedAnswer (Refused r) = refusedAnswer (numberOf r)
-certifiedAnswer NotOne = refusedAnswer 18
-certifiedAnswer Another = refusedAnswer 19
-certifiedAnswer Unsound = refusedAnswer 20
+certifiedAnswer (Read x pass) = record { number = 0; pass = cond pass 1 0; reading = x; at = 0 }
+certifiedAnswer (Refused r) = refusedAnswer (numberOf r) (placeOf r)
+certifiedAnswer NotOne = refusedAnswer 18 0
+certifiedAnswer Another = refusedAnswer 19 0
+certifiedAnswer Unsound = refusedAnswer 20 0

@@ -15,6 +15,7 @@ use Rattle.rules.specs.Edition.{Edition, current}
 use Rattle.rules.specs.Entries.{Walk, entries, broken, walk, liveCount, voidCount}
 use Rattle.rules.specs.Refusals.{
   numberOf,
+  placeOf,
   refusesArea,
   refusesShort,
   refusesSignature,
@@ -70,7 +71,8 @@ check a base = checksOf current false a base
 abbrev pub admit : List ℕ → ℕ → Checked
 admit a base = checksOf current true a base
 
--- the answer in numbers: "A refusal answers its number with every other number in the answer 0"
+-- the answer in numbers: "A refusal answers its number with every other number in the answer 0"; as amended by request 8, "for refusal 8
+-- only", but for the place
 abbrev pub checkAnswer : Checked → CheckAnswer
 checkAnswer (Accepted f) =
     record {
@@ -81,6 +83,7 @@ checkAnswer (Accepted f) =
       alignment = f .alignment;
       live = f .live;
       voids = f .voids;
+      at = 0;
     }
 checkAnswer (Refused r) =
     record {
@@ -91,4 +94,5 @@ checkAnswer (Refused r) =
       alignment = 0;
       live = 0;
       voids = 0;
+      at = placeOf r;
     }

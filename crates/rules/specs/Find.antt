@@ -13,7 +13,7 @@ use Rattle.rules.specs.declared.Found.the-variants as found
 use Rattle.rules.specs.declared.FindAnswer.{FindAnswer}
 use Rattle.rules.specs.Edition.{Edition, current}
 use Rattle.rules.specs.Entries.{dataOffset, entriesOf, occurrence}
-use Rattle.rules.specs.Refusals.{numberOf, refusesTag}
+use Rattle.rules.specs.Refusals.{numberOf, placeOf, refusesTag}
 use Rattle.rules.specs.Check.{checksOf}
 
 -- "It answers the data's offset and size"; 13: no such occurrence of the tag
@@ -51,7 +51,7 @@ abbrev pub partOffset : Found → ℕ
 partOffset (found.At offset size) = offset
 partOffset (found.Refused r) = 0
 
--- the answer in numbers
+-- the answer in numbers, with the place as added by request 8; of one that is not refused it is 0
 abbrev pub findAnswer : Found → FindAnswer
-findAnswer (found.At offset size) = record { number = 0; offset = offset; size = size }
-findAnswer (found.Refused r) = record { number = numberOf r; offset = 0; size = 0 }
+findAnswer (found.At offset size) = record { number = 0; offset = offset; size = size; at = 0 }
+findAnswer (found.Refused r) = record { number = numberOf r; offset = 0; size = 0; at = placeOf r }

@@ -1,6 +1,6 @@
 -- The written rules of document 01, one file for each part of it, in its order, and behind them one for each request of document 02
--- that adds a call; request 3's tidy, which is an edit, stands before Edit, and what holds of a tidied list behind the others. Read them
--- in the order of these lines.
+-- that adds a call; request 3's tidy, which is an edit, stands before Edit, and what holds of a tidied list, and of the place in request 8's
+-- refusal, behind the others. Read them in the order of these lines.
 -- The words for bytes (field, leBytes, xor, splice, sum) are those of wire's specs/Bytes.antt.
 pub mod Area
 pub mod Header
@@ -23,3 +23,4 @@ pub mod Demand3
 pub mod Edition09
 pub mod Certificate
 pub mod TidyTwice
+pub mod BadEntry

@@ -7,7 +7,7 @@ use Rattle.rules.specs.declared.Checked.the-variants as checked
 use Rattle.rules.specs.declared.Done.{Done}
 use Rattle.rules.specs.declared.Done.the-variants as reply
 use Rattle.rules.specs.declared.DoneAnswer.{DoneAnswer}
-use Rattle.rules.specs.Refusals.{numberOf}
+use Rattle.rules.specs.Refusals.{numberOf, placeOf}
 
 -- a refusal, or the number that is answered and the lent bytes afterwards
 pub data Outcome : Type 0 where
@@ -24,10 +24,10 @@ abbrev pub bytesAfter : List ℕ → Outcome → List ℕ
 bytesAfter before (refused r) = before
 bytesAfter before (done value bytes) = bytes
 
--- the answer in numbers
+-- the answer in numbers, with the place as added by request 8
 abbrev pub doneAnswer : Done → DoneAnswer
-doneAnswer (reply.Value value) = record { number = 0; value = value }
-doneAnswer (reply.Refused r) = record { number = numberOf r; value = 0 }
+doneAnswer (reply.Value value) = record { number = 0; value = value; at = 0 }
+doneAnswer (reply.Refused r) = record { number = numberOf r; value = 0; at = placeOf r }
 
 -- a refused check ends the call there
 abbrev pub afterAdmission : Checked → Outcome → Outcome

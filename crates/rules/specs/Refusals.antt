@@ -45,6 +45,24 @@ numberOf Target = 12
 numberOf None = 13
 numberOf Room = 14
 
+-- the place in an answer, as added by request 8: "The walk's refusal is to carry the offset of the first entry that breaks a rule"; "Other
+-- refusals answer 0 there."
+abbrev pub placeOf : Refusal → ℕ
+placeOf Area = 0
+placeOf Short = 0
+placeOf Signature = 0
+placeOf Version = 0
+placeOf Readonly = 0
+placeOf Sizes = 0
+placeOf Checksum = 0
+placeOf (Entry at) = at
+placeOf Tag = 0
+placeOf Shape = 0
+placeOf Align = 0
+placeOf Target = 0
+placeOf None = 0
+placeOf Room = 0
+
 -- 1: the area is not usable
 abbrev pub refusesArea : ℕ → ℕ → Bool
 refusesArea base len = not (usable base len)

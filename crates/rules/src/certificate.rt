@@ -57,22 +57,25 @@ pub enum Certified {
     Unsound,
 }
 
-// The answer in numbers: the refusal's number, 0 where not refused; the pass, 1 or 0; the reading. Where refused both are 0.
+// The answer in numbers: the refusal's number, 0 where not refused; the pass, 1 or 0; the reading. Where refused both are 0. The place is 0
+// in all but refusal 8.
 #[repr(C)]
 pub struct CertifiedAnswer {
     pub number: u32,
     pub pass: u32,
     pub reading: f64,
+    pub at: u32,
 }
 
 // A refusal's answer.
-fn refused(number: u32) -> CertifiedAnswer
-    ensures { λ r. ⌜ r ≡ refusedAnswer number ⌝ }
+fn refused(number: u32, at: u32) -> CertifiedAnswer
+    ensures { λ r. ⌜ r ≡ refusedAnswer number at ⌝ }
 {
     CertifiedAnswer {
         number,
         pass: 0,
         reading: 0.0,
+        at,
     }
 }
 
@@ -88,12 +91,13 @@ impl Certified {
                     number: 0,
                     pass: pass_number,
                     reading,
+                    at: 0,
                 }
             }
-            Certified::Refused(r) => refused(r.number()),
-            Certified::NotOne => refused(18),
-            Certified::Another => refused(19),
-            Certified::Unsound => refused(20),
+            Certified::Refused(r) => refused(r.number(), r.place()),
+            Certified::NotOne => refused(18, 0),
+            Certified::Another => refused(19, 0),
+            Certified::Unsound => refused(20, 0),
         }
     }
 }

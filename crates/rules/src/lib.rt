@@ -3,7 +3,7 @@ pub mod certificate;
 
 ghost use mathlib.Core.Path.{_≡_};
 ghost use Rattle.rules.specs.Header.{freshHeader};
-ghost use Rattle.rules.specs.Refusals.{numberOf};
+ghost use Rattle.rules.specs.Refusals.{numberOf, placeOf};
 ghost use Rattle.rules.specs.Check.{checkAnswer};
 ghost use Rattle.rules.specs.Find.{findAnswer};
 ghost use Rattle.rules.specs.Outcome.{doneAnswer};
@@ -108,6 +108,28 @@ impl Refusal {
             Refusal::Room => 14,
         }
     }
+
+    // The place in an answer: that of the first entry that breaks a rule; of every other refusal 0.
+    pub(crate) fn place(self) -> u32
+        ensures { λ r. ⌜ r ≡ placeOf self ⌝ }
+    {
+        match self {
+            Refusal::Area => 0,
+            Refusal::Short => 0,
+            Refusal::Signature => 0,
+            Refusal::Version => 0,
+            Refusal::Readonly => 0,
+            Refusal::Sizes => 0,
+            Refusal::Checksum => 0,
+            Refusal::Entry(at) => at,
+            Refusal::Tag => 0,
+            Refusal::Shape => 0,
+            Refusal::Align => 0,
+            Refusal::Target => 0,
+            Refusal::None => 0,
+            Refusal::Room => 0,
+        }
+    }
 }
 
 // What an accepted check answers.
@@ -138,7 +160,7 @@ pub enum Done {
     Refused(Refusal),
 }
 
-// The three answers in numbers: the refusal's number, 0 where accepted, and the values, all 0 where refused.
+// The three answers in numbers: the refusal's number, 0 where accepted; the values, all 0 where refused; and the place, 0 in all but refusal 8.
 #[repr(C)]
 pub struct CheckAnswer {
     pub number: u32,
@@ -148,6 +170,7 @@ pub struct CheckAnswer {
     pub alignment: u32,
     pub live: u32,
     pub voids: u32,
+    pub at: u32,
 }
 
 #[repr(C)]
@@ -155,12 +178,14 @@ pub struct FindAnswer {
     pub number: u32,
     pub offset: u32,
     pub size: u32,
+    pub at: u32,
 }
 
 #[repr(C)]
 pub struct DoneAnswer {
     pub number: u32,
     pub value: u32,
+    pub at: u32,
 }
 
 impl Checked {
@@ -177,6 +202,7 @@ impl Checked {
                 alignment: f.alignment,
                 live: f.live,
                 voids: f.voids,
+                at: 0,
             },
             Checked::Refused(r) => CheckAnswer {
                 number: r.number(),
@@ -186,6 +212,7 @@ impl Checked {
                 alignment: 0,
                 live: 0,
                 voids: 0,
+                at: r.place(),
             },
         }
     }
@@ -201,11 +228,13 @@ impl Found {
                 number: 0,
                 offset,
                 size,
+                at: 0,
             },
             Found::Refused(r) => FindAnswer {
                 number: r.number(),
                 offset: 0,
                 size: 0,
+                at: r.place(),
             },
         }
     }
@@ -217,10 +246,15 @@ impl Done {
         ensures { λ r. ⌜ r ≡ doneAnswer self ⌝ }
     {
         match self {
-            Done::Value(value) => DoneAnswer { number: 0, value },
+            Done::Value(value) => DoneAnswer {
+                number: 0,
+                value,
+                at: 0,
+            },
             Done::Refused(r) => DoneAnswer {
                 number: r.number(),
                 value: 0,
+                at: r.place(),
             },
         }
     }

@@ -1,9 +1,9 @@
 // Runs the paper's examples A to N, and examples of edition 0.9, of the event log's length, of tidying, of the checksum's exclusive or, of
-// the test certificate, of the device tree and of alignments up to 21, on real bytes and prints what the functions answer and leave; the
-// file stdout holds what the papers' rules give. No buffer is over 64 KiB, so that I's 65,537 bytes are left out.
-// A line: the example, the call, the answer's numbers, of a reading its 64 bits, and the bytes: of a find the data, of create, an edit and
-// a certificate the whole area or target, of two large areas the first 24 bytes; of the exclusive or the start, and the results over 0, 1,
-// 2 .. bytes from there.
+// the test certificate, of the device tree, of alignments up to 21 and of bad entries, on real bytes and prints what the functions answer and
+// leave; the file stdout holds what the papers' rules give. No buffer is over 64 KiB, so that I's 65,537 bytes are left out.
+// A line: the example, the call, the answer's numbers, of a reading its 64 bits, the place of a bad entry, which is 0 where there is none, and
+// the bytes: of a find the data, of create, an edit and a certificate the whole area or target, of two large areas the first 24 bytes; of the
+// exclusive or the start, and the results over 0, 1, 2 .. bytes from there.
 use rules::CheckAnswer;
 use rules::Done;
 use rules::FindAnswer;
@@ -35,6 +35,7 @@ fn show_checked(example: &[u8], a: CheckAnswer) {
     number(a.alignment);
     number(a.live);
     number(a.voids);
+    number(a.at);
     io::write_all(1, b"\n");
 }
 
@@ -48,6 +49,7 @@ fn show_found(example: &[u8], a: FindAnswer, data: &[u8]) {
     number(a.number);
     number(a.offset);
     number(a.size);
+    number(a.at);
     show_bytes(data);
     io::write_all(1, b"\n");
 }
@@ -66,6 +68,7 @@ fn show_done(example: &[u8], d: Done, bytes: &[u8]) {
     io::write_all(1, example);
     number(a.number);
     number(a.value);
+    number(a.at);
     show_bytes(bytes);
     io::write_all(1, b"\n");
 }
@@ -512,6 +515,7 @@ fn show_certificate(example: &[u8], area: &[u8], serial: u64, test: u64) {
     number(a.pass);
     io::write_all(1, b" ");
     io::print_hex(1, bits(a.reading), 16);
+    number(a.at);
     show_bytes(area);
     io::write_all(1, b"\n");
 }
@@ -785,6 +789,7 @@ fn fdt_find(path: &[u8], name: &[u8]) {
     number(found.number);
     number(found.offset);
     number(found.size);
+    number(found.at);
     show_bytes(transfer_list::tl_fdt_find_data(&d, path, name));
     io::write_all(1, b"\n");
 }
@@ -975,6 +980,76 @@ fn alignments_09() {
     show_convert09(b"09 alignment 22 convert", over, 0x1000, 0xff0);
 }
 
+// ---- Where the bad entry is (document 02, request 8). The examples are our own.
+
+// A list without a checksum of three entries of 16 bytes, of which a byte is set by hand.
+fn make_bad(area: &mut [u8], at: usize, byte: &[u8]) {
+    create::create(area, 0x1000, false);
+    edit::edits::add(area, 0x1000, 1, b"\xaa\xbb\xcc", false);
+    edit::edits::add(area, 0x1000, 2, b"\xaa\xbb\xcc", false);
+    edit::edits::add(area, 0x1000, 3, b"\xaa\xbb\xcc", false);
+    put_part(area, at, byte);
+}
+
+fn bad_entry(example: &[u8], at: usize, byte: &[u8]) {
+    let mut area = [0u8; 72];
+    make_bad(&mut area, at, byte);
+    show_check(example, &area, 0x1000);
+}
+
+// The first, the middle and the last entry with a header of 9 bytes; with 49 bytes of data where at most 40 are left; as a void of 3.
+fn bad_entries() {
+    bad_entry(b"header of 9 first", 27, b"\x09");
+    bad_entry(b"header of 9 in the middle", 43, b"\x09");
+    bad_entry(b"header of 9 last", 59, b"\x09");
+    bad_entry(b"data of 49 first", 28, b"\x31");
+    bad_entry(b"data of 49 in the middle", 44, b"\x31");
+    bad_entry(b"data of 49 last", 60, b"\x31");
+    bad_entry(b"void of 3 first", 24, b"\0");
+    bad_entry(b"void of 3 in the middle", 40, b"\0");
+    bad_entry(b"void of 3 last", 56, b"\0");
+    bad_entry(b"data of 40 first", 28, b"\x28");
+}
+
+// Every call that makes the check, on the list whose middle entry has a header of 9 bytes, and whose last one has too.
+fn bad_entry_calls() {
+    let mut area = [0u8; 72];
+    let mut target = [0xffu8; 80];
+    make_bad(&mut area, 43, b"\x09");
+    area[59] = 9;
+    show_find(b"two of 9", &area, 0x1000, 1, 0);
+    let added = edit::edits::add(&mut area, 0x1000, 0, b"", true);
+    show_done(b"two of 9 add", added, &area);
+    let aligned = edit::edits::add_aligned(&mut area, 0x1000, 4, b"", 22);
+    show_done(b"two of 9 add aligned", aligned, &area);
+    let voided = edit::edits::void(&mut area, 0x1000, 1, 0);
+    show_done(b"two of 9 void", voided, &area);
+    let tidied = tidy::tidy(&mut area, 0x1000);
+    show_done(b"two of 9 tidy", tidied, &area);
+    let moved = relocate::relocate(&area, 0x1000, &mut target, 0x2000);
+    show_done(b"two of 9 relocate", moved, &target);
+    show_certificate(b"two of 9", &area, 1, 1);
+    area[4] = 1;
+    show_check(b"two of 9 and bad checksum", &area, 0x1000);
+}
+
+// Of version 2 a header of 9 bytes is good, and one of 7 is not; an edit is READONLY. Of edition 0.9 the first entry stands at 16.
+fn bad_entries_elsewhere() {
+    let mut area = [0u8; 72];
+    make_bad(&mut area, 43, b"\x09");
+    area[5] = 2;
+    show_check(b"header of 9 in version 2", &area, 0x1000);
+    area[59] = 7;
+    show_check(b"header of 7 in version 2", &area, 0x1000);
+    let tidied = tidy::tidy(&mut area, 0x1000);
+    show_done(b"header of 7 in version 2 tidy", tidied, &area);
+    let old =
+        b"\xff\xd0\x6e\0\xf9\x01\x10\x03\x30\0\0\0\x30\0\0\0\x01\0\0\x08\x03\0\0\0\xaa\xbb\xcc\0\0\0\0\0\0\0\0\x08\x03\0\0\0\0\0\0\0\0\0\0\0";
+    show_check09(b"09 void of 3", old, 0x1000);
+    show_find09(b"09 void of 3", old, 0x1000, 1, 0);
+    show_convert09(b"09 void of 3 convert", old, 0x1000, 0x2000);
+}
+
 fn main() {
     examples_a_to_d();
     example_e(b"0123456789abcdefg");
@@ -1033,4 +1108,7 @@ fn main() {
     aligned_far();
     relocations_21();
     alignments_09();
+    bad_entries();
+    bad_entry_calls();
+    bad_entries_elsewhere();
 }

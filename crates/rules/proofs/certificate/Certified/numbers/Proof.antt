@@ -1,4 +1,4 @@
--- In each case the numbers are those that the definition gives; the refusal's own is `number`'s.
+-- In each case the numbers are those that the definition gives; the refusal's own are `number`'s and `place`'s.
 use borrow.Author.Needs.{needs}
 use Rattle.rules.proofs.Bools.{as-number}
 use Rattle.rules.proofs.certificate.Certified.numbers.Statement.{statement}
@@ -15,6 +15,9 @@ enum-known-self-2 c = search needs
 
 number-requires : tie.Need-number-requires
 number-requires c κs = search needs
+
+place-requires : tie.Need-place-requires
+place-requires c κs = search needs
 
 refused-requires : tie.Need-refused-requires
 refused-requires c κs = search needs
@@ -41,7 +44,9 @@ returns : tie.Need-returns
 returns c = rw (c .before .self .given .1, as-number)
 
 returns-2 : tie.Need-returns-2
-returns-2 c = rw (c .before .before .before .self2 .given .1, c .refused .ensures, c .before .number .ensures)
+returns-2 c =
+    let k = c .before .before in
+    rw (k .before .before .self2 .given .1, c .refused .ensures, k .number .ensures, c .before .place .ensures)
 
 returns-3 : tie.Need-returns-3
 returns-3 c = rw (c .before .enum-told .given .1, c .refused2 .ensures)
@@ -60,6 +65,7 @@ numbers-spec =
     cast-pass-number
     enum-known-self-2
     number-requires
+    place-requires
     refused-requires
     enum-told
     refused-requires-2
