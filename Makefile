@@ -1,10 +1,12 @@
 # make run       the demonstration: the paper's first examples, a full list tidied, a bench's boot over the library, which reads a device
-#                tree, up to the valves' test certificates, damaged boots, where a bad entry is named, a list of edition 0.9 converted
+#                tree, up to the valves' test certificates, damaged boots, where a bad entry is named, a breaker that trips in the middle of
+#                an edit, the loop that steps and flushes, a list of edition 0.9 converted
 # make show      the entries of a list in a file, up to a bad one, which it points at: FILE=.. BASE=..; without a file, two samples
 # make test      everything that is checked; ends with rt ci, whose last line is 'N passed, 0 failed'
 # make lib       target/staticlib/libtransfer_list.a, for C on x86-64
 # make install   the archive, the header and a pkg-config file under PREFIX (default /usr/local)
 # make ctest     a C program over the header: every answer and byte as stored; the structures' layout
+# make cuts      the compiled calls with a journal, cut after each instruction that stores; it fails where ptrace is not permitted
 # make compare   the library beside the independent second program: LISTS=N SEED=S
 # make compare-large  the same on large lists, up to 16 MiB: SEED=S; it is no part of make test, which fills no buffer over 64 KiB
 # make bench     the library beside plain Rust, and its device trees beside libfdt too where that is installed; SHIFT=16, 32 or 48 puts
@@ -29,11 +31,13 @@ TIMED = target/staticlib/libtimed.a
 C_FLAGS = -std=c99 $(CFLAGS) -Iinclude
 CARGO = cargo build --quiet --release --offline
 
-.PHONY: run show test lib install ctest compare compare-large fdt-compare bench fmt-check header-check symbols-check oracle-test size
+.PHONY: run show test lib install ctest cuts compare compare-large fdt-compare bench fmt-check header-check symbols-check oracle-test size
 
-run: target/demo/paper target/demo/boot target/demo/edition09
+run: target/demo/paper target/demo/boot target/demo/power target/demo/flush target/demo/edition09
 	target/demo/paper
 	target/demo/boot
+	target/demo/power
+	target/demo/flush
 	target/demo/edition09
 
 show: target/demo/show
@@ -73,6 +77,13 @@ ctest: target/ctest/answers
 
 target/ctest/answers: ctest/answers.c include/transfer_list.h $(LIB)
 	mkdir -p target/ctest
+	$(CC) $(C_FLAGS) -o $@ $< $(LIB)
+
+cuts: target/cuts/cuts
+	target/cuts/cuts
+
+target/cuts/cuts: cuts/cuts.c include/transfer_list.h $(LIB)
+	mkdir -p target/cuts
 	$(CC) $(C_FLAGS) -o $@ $< $(LIB)
 
 compare: $(LIB)

@@ -2,7 +2,7 @@
  * The paper's examples A to N (it has no L) and every refusal, through the header alone. For each call every field of the answer is
  * printed, how many bytes changed, and the bytes where any did. `make ctest` compares this with answers.expected, which was worked out
  * from the paper and not with this library. The examples of edition 0.9 are our own, since source 000 has none, and so are those of
- * document 02, requests 2, 3 and 5 to 8, but for the reading of 900. Examples I and J are as its request 7 amends them, and `at` of every
+ * document 02, requests 2, 3 and 5 to 9, but for the reading of 900. Examples I and J are as its request 7 amends them, and `at` of every
  * answer is as its request 8 has it.
  *
  * At most 65,536 bytes are lent, but for longer areas and targets that are all 0, are refused and stay so. So 65,537 of example I is not
@@ -10,6 +10,7 @@
  */
 #include <float.h>
 #include <inttypes.h>
+#include <limits.h>
 #include <stdio.h>
 #include <stdlib.h>
 #include <string.h>
@@ -28,10 +29,11 @@ typedef struct {
     uint8_t now[SPACE], before[SPACE];
 } buffer;
 
-static buffer area = {"area", {0}, {0}}, target = {"target", {0}, {0}};
+static buffer area = {"area", {0}, {0}}, target = {"target", {0}, {0}}, journal = {"journal", {0}, {0}};
 static uint8_t *zero_bytes; /* LIMIT + 1 bytes and BEHIND more, all 0, which take no memory as long as none is written */
 static size_t len;    /* how many bytes of the area are lent */
 static uint64_t base; /* where the area is said to stand */
+static size_t journal_len; /* how many bytes of the journal are lent */
 
 static const uint8_t zeros[SPACE];
 static const uint8_t data[17] = {0xaa, 0xbb, 0xcc, 0xdd, 0xee, 0xff, 0x11, 0x22, 0x33, 0x44, 0x55, 0x66, 0x77, 0x88, 0x99, 0x10, 0x20};
@@ -125,6 +127,7 @@ static void keep(void)
 {
     memcpy(area.before, area.now, SPACE);
     memcpy(target.before, target.now, SPACE);
+    memcpy(journal.before, journal.now, SPACE);
 }
 
 static void check(void)
@@ -2400,6 +2403,760 @@ static void no_list_check(void)
     fdt_find("/a", "p");
 }
 
+/*
+ * Power cuts. Each edit and each recovery is made as a whole call; then in steps, from the same bytes; then it is cut after each number of
+ * stores, from none to all, and recovered, where the recovery is also cut after each number of its stores and made again.
+ */
+
+#define SMALL 512u /* the most that is lent of an area and of a journal where this is done */
+
+typedef struct {
+    uint8_t area[SMALL], journal[SMALL];
+} pair;
+
+/* What is asked for, whether as a whole call or in steps. */
+typedef struct {
+    enum { ADD, ADD_ALIGNED, STRIKE, RECOVER } what;
+    uint32_t tag;
+    size_t n;            /* of an add, how many bytes of data */
+    bool use_voids;      /* of an add that is not aligned */
+    uint32_t exponent;   /* of an aligned add */
+    uint64_t occurrence; /* of a void */
+} job;
+
+static const job recovery = {RECOVER, 0, 0, false, 0, 0};
+
+static const uint8_t *data_of(job j)
+{
+    return j.n == 0 ? NULL : source;
+}
+
+static tl_done whole(job j, uint8_t *a, uint8_t *records)
+{
+    switch (j.what) {
+    case ADD: return tl_add_journalled(a, len, base, j.tag, data_of(j), j.n, j.use_voids, records, journal_len);
+    case ADD_ALIGNED: return tl_add_aligned_journalled(a, len, base, j.tag, data_of(j), j.n, j.exponent, records, journal_len);
+    case STRIKE: return tl_void_journalled(a, len, base, j.tag, j.occurrence, records, journal_len);
+    default: return tl_recover(a, len, records, journal_len);
+    }
+}
+
+static tl_stepped decide(job j, const uint8_t *a, const uint8_t *records)
+{
+    switch (j.what) {
+    case ADD: return tl_add_steps(a, len, base, j.tag, data_of(j), j.n, j.use_voids, records, journal_len);
+    case ADD_ALIGNED: return tl_add_aligned_steps(a, len, base, j.tag, data_of(j), j.n, j.exponent, records, journal_len);
+    case STRIKE: return tl_void_steps(a, len, base, j.tag, j.occurrence, records, journal_len);
+    default: return tl_recover_steps(a, len, records, journal_len);
+    }
+}
+
+static tl_stepped step(job j, tl_steps state, uint8_t *a, uint8_t *records)
+{
+    return tl_step(state, a, len, data_of(j), j.n, records, journal_len);
+}
+
+static bool same_done(tl_done a, tl_done b)
+{
+    return a.number == b.number && a.value == b.value && a.at == b.at;
+}
+
+/* Whether an answer that has not ended has only zeros, as it must. */
+static bool well_formed(tl_stepped s)
+{
+    return s.ended == 1 || (s.ended == 0 && same_done(s.done, (tl_done){0, 0, 0}));
+}
+
+/* Makes at most so many steps, and counts them. `right` is cleared if an answer on the way is not as it must be, or deciding stored. */
+static unsigned run(job j, pair *p, unsigned most, tl_stepped *s, bool *right)
+{
+    const pair given = *p;
+    uint8_t *a = len == 0 ? NULL : p->area, *records = journal_len == 0 ? NULL : p->journal;
+    unsigned stores = 0;
+    *s = decide(j, a, records);
+    *right &= well_formed(*s) && memcmp(&given, p, sizeof given) == 0;
+    for (; s->ended == 0 && stores < most; stores++) {
+        *s = step(j, s->state, a, records);
+        *right &= well_formed(*s);
+    }
+    return stores;
+}
+
+enum { OLD, NEW, OTHER, SIDES };
+
+/* What a recovery gives: the area as it was before the call, or as it is now. It must answer 0 and leave every kind 0. */
+static int recovered(pair p)
+{
+    tl_done d = tl_recover(len == 0 ? NULL : p.area, len, journal_len == 0 ? NULL : p.journal, journal_len);
+    for (size_t i = 0; i < journal_len / 16; i++)
+        if (p.journal[16 * i] != 0)
+            return OTHER;
+    if (!same_done(d, (tl_done){0, 0, 0}))
+        return OTHER;
+    return memcmp(p.area, area.now, SMALL) == 0 ? NEW : memcmp(p.area, area.before, SMALL) == 0 ? OLD : OTHER;
+}
+
+/* The same, the recovery being cut after each number of its stores and made again. */
+static void recovered_twice(const pair *p, unsigned count[SIDES])
+{
+    tl_stepped s;
+    bool right = true;
+    unsigned most = 0;
+    do {
+        pair q = *p;
+        run(recovery, &q, most++, &s, &right);
+        count[right ? recovered(q) : OTHER]++;
+    } while (s.ended == 0);
+}
+
+static pair both_before(void)
+{
+    pair p;
+    memcpy(p.area, area.before, SMALL);
+    memcpy(p.journal, journal.before, SMALL);
+    return p;
+}
+
+static void cut_everywhere(job j, unsigned stores)
+{
+    unsigned once[SIDES] = {0}, twice[SIDES] = {0}, first_new = 0;
+    for (unsigned cut = 0; cut <= stores; cut++) {
+        pair p = both_before();
+        tl_stepped s;
+        bool right = true;
+        run(j, &p, cut, &s, &right);
+        int side = right ? recovered(p) : OTHER;
+        if (side == NEW && once[NEW] == 0)
+            first_new = cut;
+        once[side]++;
+        recovered_twice(&p, twice);
+    }
+    printf("  cut after 0 to %u stores and recovered: %u old, %u new, %u other", stores, once[OLD], once[NEW], once[OTHER]);
+    printf("; the first new one after %u\n", first_new);
+    printf("  the recovery cut too: %u old, %u new, %u other\n", twice[OLD], twice[NEW], twice[OTHER]);
+}
+
+/* The whole call has been made. */
+static void in_steps(job j, tl_done d)
+{
+    pair p = both_before();
+    tl_stepped s;
+    bool right = true;
+    unsigned stores = run(j, &p, UINT_MAX, &s, &right);
+    right &= s.ended == 1 && same_done(s.done, d);
+    right &= memcmp(p.area, area.now, SMALL) == 0 && memcmp(p.journal, journal.now, SMALL) == 0;
+    printf("  in steps: %u stores, %s\n", stores, right ? "the same answer and bytes" : "NOT THE SAME");
+    if (stores > 0)
+        cut_everywhere(j, stores);
+}
+
+static void print_job(const char *form, job j)
+{
+    switch (j.what) {
+    case ADD:
+        printf("tl_add%s: tag 0x%" PRIx32 ", %zu bytes, voids %s", form, j.tag, j.n, j.use_voids ? "yes" : "no");
+        break;
+    case ADD_ALIGNED:
+        printf("tl_add_aligned%s: tag 0x%" PRIx32 ", %zu bytes, exponent %" PRIu32, form, j.tag, j.n, j.exponent);
+        break;
+    case STRIKE:
+        printf("tl_void%s: tag 0x%" PRIx32 ", occurrence %" PRIu64, form, j.tag, j.occurrence);
+        break;
+    default:
+        printf("tl_recover%s: area of %zu bytes", form, len);
+    }
+    printf(", journal of %zu bytes\n", journal_len);
+}
+
+static void make(job j)
+{
+    print_job(j.what == RECOVER ? "" : "_journalled", j);
+    keep();
+    tl_done d = whole(j, lend(&area, len), lend(&journal, journal_len));
+    show_done(d);
+    show_buffer(&journal, journal_len);
+    if (len <= SMALL && journal_len <= SMALL)
+        in_steps(j, d);
+}
+
+static void add_journalled(uint32_t tag, size_t n, bool use_voids)
+{
+    make((job){ADD, tag, n, use_voids, 0, 0});
+}
+
+static void add_aligned_journalled(uint32_t tag, size_t n, uint32_t exponent)
+{
+    make((job){ADD_ALIGNED, tag, n, false, exponent, 0});
+}
+
+static void strike_journalled(uint32_t tag, uint64_t occurrence)
+{
+    make((job){STRIKE, tag, 0, false, 0, occurrence});
+}
+
+static void recover(void)
+{
+    make(recovery);
+}
+
+/* Not a call: a journal in which every kind is 0. All its other bytes are ee, so that every byte written is seen. */
+static void put_journal(size_t n)
+{
+    journal_len = n;
+    memset(journal.now, 0xee, SPACE);
+    for (size_t i = 0; i < n / 16; i++)
+        journal.now[16 * i] = 0;
+    printf("by hand: a journal of %zu bytes, ee but for the kinds of its %zu records, which are 0\n", n, n / 16);
+}
+
+static void put_kind(size_t record, uint8_t kind)
+{
+    printf("by hand: record %zu has kind %u\n", record, kind);
+    journal.now[16 * record] = kind;
+}
+
+/* Bytes 1 to 3 stay ee, and so do all bytes of a commit but its kind: a recovery does not judge them. */
+static void put_record(size_t record, uint32_t offset, uint8_t byte)
+{
+    uint8_t *to = journal.now + 16 * record;
+    *to = 1;
+    for (int i = 0; i < 4; i++)
+        to[4 + i] = (uint8_t)(offset >> 8 * i);
+    memset(to + 8, byte, 8);
+    printf("by hand: record %zu is a word at %" PRIu32 ", eight times %02x\n", record, offset, byte);
+}
+
+static void journal_adds(void)
+{
+    title("journal: to A add tag 1, data aa bb cc: four words, exactly five records; the area is B's");
+    create(64, 0x1000, true);
+    put_journal(80);
+    add_journalled(1, 3, false);
+    check();
+    title("journal: a record more, whose kind is stored too; 15 bytes more, which stay; a byte and a record too few are 16 JOURNAL");
+    create(64, 0x1000, true);
+    put_journal(96);
+    add_journalled(1, 3, false);
+    create(64, 0x1000, true);
+    put_journal(79);
+    add_journalled(1, 3, false);
+    put_journal(64);
+    add_journalled(1, 3, false);
+    put_journal(95);
+    add_journalled(1, 3, false);
+    title("journal: a second edit with the same journal, whose spent records keep their bytes");
+    add_journalled(0xfff001, 8, false);
+    title("journal: a kind that is not 0 is 16 JOURNAL, in a record that the edit would not use too, but not behind the whole records");
+    create(64, 0x1000, true);
+    put_journal(111);
+    put_kind(5, 1);
+    add_journalled(1, 3, false);
+    put_kind(5, 2);
+    add_journalled(1, 3, true);
+    put_kind(5, 0);
+    put_kind(0, 255);
+    add_journalled(1, 3, false);
+    add_aligned_journalled(4, 3, 4);
+    put_kind(0, 3);
+    add_journalled(1, 3, false);
+    put_kind(0, 0);
+    put_kind(6, 1);
+    add_journalled(1, 3, false);
+    put_kind(2, 1);
+    strike_journalled(1, 0);
+}
+
+static void journal_lengths(void)
+{
+    title("journal: of 0, 15, 16, 31 and 32 bytes, 16 JOURNAL where two or three words change");
+    static const size_t lengths[] = {0, 15, 16, 31, 32};
+    create(64, 0x1000, true);
+    add(4, 0, false);
+    for (size_t i = 0; i < sizeof lengths / sizeof *lengths; i++) {
+        put_journal(lengths[i]);
+        add_journalled(1, 0, true);
+        add_aligned_journalled(1, 0, 3);
+        strike_journalled(4, 0);
+    }
+    title("journal: 32 bytes are enough where one word changes, 31 are not: without a checksum; with one that stays as it is");
+    create(64, 0x1000, false);
+    add(1, 0, false);
+    put_journal(31);
+    strike_journalled(1, 0);
+    put_journal(32);
+    strike_journalled(1, 0);
+    create(64, 0x1000, true);
+    add(0x101, 0, false);
+    put_journal(32);
+    strike_journalled(0x101, 0);
+    check();
+}
+
+static void journal_refusals(void)
+{
+    title("journal: 14 ROOM, 13 NONE, 11 ALIGN, 10 SHAPE and 9 TAG come before 16 JOURNAL, which two causes would have");
+    create(32, 0x1000, true);
+    put_journal(16);
+    put_kind(0, 1);
+    add_journalled(1, 1, true);
+    add_aligned_journalled(4, 4, 6);
+    strike_journalled(1, 0);
+    add_aligned_journalled(4, 4, 2);
+    add_aligned_journalled(4, 4, 22);
+    add_journalled(6, 11, false);
+    add_aligned_journalled(0x104, 17, 4);
+    add_journalled(0x800000, 3, false);
+    add_aligned_journalled(0, 4, 4);
+    strike_journalled(0, 0);
+    add_journalled(1, 0, false);
+    title("journal: 8 ENTRY with its place comes before 16 JOURNAL");
+    spoil_five(59, 9, 0xf4);
+    put_journal(0);
+    add_journalled(1, 3, false);
+    add_aligned_journalled(4, 4, 4);
+    strike_journalled(1, 0);
+    title("journal: 7 CHECKSUM, 6 SIZES, 5 READONLY, 4 VERSION, 3 SIGNATURE, 2 SHORT and 1 AREA do");
+    put(4, 1, 0xf5);
+    add_journalled(1, 3, false);
+    put(7, 1, 22);
+    add_aligned_journalled(4, 4, 4);
+    put(5, 1, 2);
+    strike_journalled(1, 0);
+    put(5, 1, 0);
+    add_journalled(1, 3, true);
+    put(0, 1, 0x0a);
+    add_aligned_journalled(4, 4, 4);
+    len = 23;
+    strike_journalled(1, 0);
+    len = 0;
+    add_journalled(1, 0, false);
+    base = 0x1004;
+    add_aligned_journalled(4, 0, 4);
+}
+
+/* To a list with a void of 8 tag 2 with n bytes is added, with exactly so many records. */
+static void add_to_void_of_8(size_t n, size_t records)
+{
+    create(64, 0x1000, true);
+    add(1, 3, false);
+    strike(1, 0);
+    put_journal(16 * records - 1);
+    add_journalled(2, n, true);
+    put_journal(16 * records);
+    add_journalled(2, n, true);
+}
+
+static void journal_voids_used(void)
+{
+    title("journal: to C add tag 2, no data, voids allowed: three words; the area is D's, with a void behind");
+    add_to_void_of_8(0, 4);
+    check();
+    title("journal: eight bytes, which fill the void: three words");
+    add_to_void_of_8(8, 4);
+    title("journal: eight bytes 0 there, which do not change: two words");
+    source = zeros;
+    add_to_void_of_8(8, 3);
+    title("journal: nine bytes 0, for which the void is too small: at the end, where the data do not change");
+    add_to_void_of_8(9, 4);
+    source = data;
+}
+
+static void journal_aligned(void)
+{
+    title("journal: G, exponent 6: the header of a void of 24, data at 0x1040: five words; exponent 4, no padding: four");
+    create(128, 0x1000, true);
+    put_journal(95);
+    add_aligned_journalled(4, 4, 6);
+    put_journal(96);
+    add_aligned_journalled(4, 4, 6);
+    check();
+    create(64, 0x1000, true);
+    put_journal(80);
+    add_aligned_journalled(4, 4, 4);
+    title("journal: the same with exponent 6 where the bytes behind used are not 0: three words more, the void's data");
+    create(128, 0x1000, true);
+    put(24, 104, 0xee);
+    put_journal(143);
+    add_aligned_journalled(4, 4, 6);
+    put_journal(144);
+    add_aligned_journalled(4, 4, 6);
+}
+
+static void journal_strikes(void)
+{
+    title("journal: void tag 1 in B: three words; the area is C's; then there is none");
+    create(64, 0x1000, true);
+    add(1, 3, false);
+    put_journal(63);
+    strike_journalled(1, 0);
+    put_journal(64);
+    strike_journalled(1, 0);
+    strike_journalled(1, 0);
+    title("journal: an area of 70 bytes, of which the last six belong to no word");
+    create(70, 0x1000, true);
+    put(64, 6, 0xee);
+    put_journal(100);
+    add_journalled(1, 17, false);
+    put_journal(128);
+    add_journalled(1, 17, false);
+    strike_journalled(1, 0);
+}
+
+/* Which bytes a step changed, in what was lent or beyond it. */
+static unsigned show_changes(const buffer *b)
+{
+    unsigned count = 0;
+    for (size_t i = 0; i < SPACE; i++)
+        if (b->now[i] != b->before[i]) {
+            printf(" %s byte %zu, %02x to %02x", b->name, i, b->before[i], b->now[i]);
+            count++;
+        }
+    return count;
+}
+
+static void show_stepped(tl_stepped s)
+{
+    unsigned changes = show_changes(&area);
+    changes += show_changes(&journal);
+    printf("%s; ended %" PRIu32 ", number %" PRIu32, changes == 0 ? " no byte changed" : "", s.ended, s.done.number);
+    printf(", value %" PRIu32 ", at %" PRIu32 "\n", s.done.value, s.done.at);
+}
+
+/* The steps one by one, and two more after the end. */
+static void make_steps(job j)
+{
+    unsigned stores = 0, after = 0;
+    print_job("_steps", j);
+    keep();
+    tl_stepped s = decide(j, lend(&area, len), lend(&journal, journal_len));
+    printf("  decided:");
+    show_stepped(s);
+    while (after < 2) {
+        if (s.ended == 0)
+            printf("  store %u:", ++stores);
+        else
+            printf("  step %u after the end:", ++after);
+        keep();
+        s = step(j, s.state, lend(&area, len), lend(&journal, journal_len));
+        show_stepped(s);
+    }
+}
+
+/* Striking out an entry without data changes two words, at 0 and 24; the commit's kind is store 48, of 68 in all. */
+static const job small_strike = {STRIKE, 1, 0, false, 0, 0};
+
+static void put_small(void)
+{
+    create(64, 0x1000, true);
+    add(1, 0, false);
+    put_journal(64);
+}
+
+/* Not a call: so many stores of the small edit are made. */
+static void run_small(unsigned stores)
+{
+    put_small();
+    pair p = {{0}, {0}};
+    tl_stepped s;
+    bool right = true;
+    memcpy(p.area, area.now, SMALL);
+    memcpy(p.journal, journal.now, SMALL);
+    printf("by steps: %u stores of striking out tag 1\n", run(small_strike, &p, stores, &s, &right));
+    memcpy(area.now, p.area, SMALL);
+    memcpy(journal.now, p.journal, SMALL);
+}
+
+/* The area and the journal are shown as the cut leaves them. */
+static void cut_small(unsigned stores)
+{
+    run_small(stores);
+    show_hex(area.now, len);
+    show_hex(journal.now, journal_len);
+    check();
+    recover();
+    check();
+}
+
+static void journal_steps(void)
+{
+    title("journal: striking out an entry without data, store by store, with four records: two words; the commit is store 48");
+    put_small();
+    make_steps(small_strike);
+    title("journal: cut one store before the commit: the old area; with the commit, in the second word, after the first kind: the new one");
+    cut_small(47);
+    cut_small(48);
+    cut_small(60);
+    cut_small(65);
+    title("journal: a recovery store by store, of what a cut behind the commit left; of an empty journal; without a record");
+    run_small(48);
+    make_steps(recovery);
+    make_steps(recovery);
+    put_journal(15);
+    make_steps(recovery);
+    put_journal(0);
+    make_steps(recovery);
+    title("journal: a refusal comes with no step, and again with each step that is made all the same");
+    put_journal(0);
+    make_steps((job){STRIKE, 1, 0, false, 0, 0});
+    make_steps((job){ADD, 2, 3, true, 0, 0});
+    make_steps((job){ADD_ALIGNED, 2, 17, false, 6, 0});
+    put_journal(32);
+    put_kind(0, 3);
+    make_steps(recovery);
+    spoil_five(59, 9, 0xf4);
+    make_steps((job){ADD, 2, 3, true, 0, 0});
+}
+
+/* An area in which no list is: n bytes, each ee. */
+static void put_bytes(size_t n)
+{
+    len = n;
+    memset(area.now, 0xee, SPACE);
+    printf("by hand: an area of %zu bytes, all ee\n", n);
+}
+
+static void recoveries(void)
+{
+    title("recovery: an empty journal; no whole record; none and no area");
+    put_bytes(24);
+    put_journal(50);
+    recover();
+    put_journal(15);
+    recover();
+    put_journal(0);
+    recover();
+    put_bytes(0);
+    recover();
+    put_journal(32);
+    recover();
+    title("recovery: words and a commit, though no list is there and bytes 1 to 3 and the commit's are not 0; again, nothing changes");
+    put_bytes(27);
+    put_journal(64);
+    put_record(0, 16, 0x11);
+    put_record(1, 0, 0x22);
+    put_kind(2, 2);
+    recover();
+    recover();
+    title("recovery: a commit alone, first and behind an empty record; words behind an empty record are not applied");
+    put_journal(48);
+    put_kind(0, 2);
+    recover();
+    put_kind(1, 2);
+    put_kind(2, 2);
+    recover();
+    put_record(1, 8, 0x33);
+    put_kind(2, 2);
+    recover();
+    title("recovery: words and no commit: an empty record behind them; none behind them; a commit only in the odd bytes");
+    put_record(0, 8, 0x33);
+    recover();
+    put_record(0, 8, 0x33);
+    put_record(1, 0, 0x44);
+    put_record(2, 16, 0x55);
+    recover();
+    put_journal(47);
+    put_record(0, 8, 0x33);
+    put_record(1, 0, 0x44);
+    put_kind(2, 2);
+    recover();
+    title("recovery: words behind the commit are not applied; nor behind an empty record a second row with its commit");
+    put_journal(96);
+    put_record(0, 8, 0x66);
+    put_kind(1, 2);
+    put_record(2, 0, 0x77);
+    put_kind(3, 2);
+    put_record(4, 16, 0x88);
+    put_kind(5, 2);
+    recover();
+    put_record(0, 0, 0x99);
+    put_record(2, 8, 0xaa);
+    put_kind(3, 2);
+    recover();
+    title("recovery: equal offsets: the later one stays");
+    put_record(0, 8, 0x12);
+    put_record(1, 0, 0x34);
+    put_record(2, 8, 0x56);
+    put_kind(3, 2);
+    recover();
+}
+
+/* A journal of four records: two words, the second at this offset, and a commit behind them. */
+static void recover_at(uint32_t offset)
+{
+    put_journal(64);
+    put_record(0, 0, 0x11);
+    put_record(1, offset, 0x22);
+    put_kind(2, 2);
+    recover();
+}
+
+static void recoveries_refused(void)
+{
+    title("recovery, 17 FOREIGN: kind 3 behind the commit, kind 255 alone, kind 128 in the place of the commit; behind the whole records not");
+    put_bytes(24);
+    put_journal(64);
+    put_record(0, 0, 0x11);
+    put_kind(1, 2);
+    put_kind(3, 3);
+    recover();
+    put_journal(64);
+    put_kind(3, 255);
+    recover();
+    put_journal(64);
+    put_record(0, 0, 0x11);
+    put_kind(1, 128);
+    recover();
+    put_journal(63);
+    put_record(0, 0, 0x11);
+    put_kind(1, 2);
+    put_kind(3, 3);
+    recover();
+    title("recovery, 17 FOREIGN: an offset that is no multiple of 8, though the word before it is good");
+    put_bytes(24);
+    recover_at(4);
+    recover_at(1);
+    recover_at(15);
+    title("recovery, 17 FOREIGN: 16 + 8 exceeds 23, and not 24; 24 + 8 and 0x10000 + 8 exceed 24; no sum wraps; no area");
+    put_bytes(23);
+    recover_at(16);
+    put_bytes(24);
+    recover_at(16);
+    recover_at(24);
+    recover_at(0x10000);
+    recover_at(0xfffffff8);
+    recover_at(0xffffffff);
+    put_bytes(0);
+    recover_at(0);
+    title("recovery: such words are not judged behind the commit, nor without one");
+    put_bytes(24);
+    put_journal(64);
+    put_record(0, 8, 0x33);
+    put_kind(1, 2);
+    put_record(2, 4, 0x44);
+    put_record(3, 0xfffffff8, 0x55);
+    recover();
+    put_record(0, 4, 0x66);
+    put_record(1, 24, 0x77);
+    recover();
+    title("recovery: the area may have any length: of 16,777,217 bytes, all 0, the last word is stored as 0; behind it 17 FOREIGN");
+    len = LIMIT + 1;
+    put_journal(32);
+    put_record(0, LIMIT - 8, 0x00);
+    put_kind(1, 2);
+    recover();
+    put_record(0, LIMIT, 0x00);
+    put_kind(1, 2);
+    recover();
+}
+
+/* A step on the area and journal as they are, with so many of their bytes lent. */
+static tl_stepped show_step(const char *what, tl_steps state, size_t area_lent, size_t journal_lent)
+{
+    printf("tl_step: %s, %zu bytes of area, %zu of journal\n ", what, area_lent, journal_lent);
+    keep();
+    tl_stepped s = tl_step(state, lend(&area, area_lent), area_lent, NULL, 0, lend(&journal, journal_lent), journal_lent);
+    show_stepped(s);
+    return s;
+}
+
+/* What came of steps with states that no step left. */
+static unsigned tried, stored_more, stored_and_refused, not_refused_again, ill_formed;
+
+static void try_state(tl_steps state, size_t area_lent, size_t journal_lent)
+{
+    uint8_t *a = lend(&area, area_lent), *records = lend(&journal, journal_lent);
+    memcpy(area.now, area.before, SMALL);
+    memcpy(journal.now, journal.before, SMALL);
+    tl_stepped s = tl_step(state, a, area_lent, NULL, 0, records, journal_lent);
+    size_t inside = differences(area.now, area.before, area_lent) + differences(journal.now, journal.before, journal_lent);
+    size_t all = differences(area.now, area.before, SMALL) + differences(journal.now, journal.before, SMALL);
+    bool refused = s.ended == 1 && same_done(s.done, (tl_done){TL_FOREIGN, 0, 0});
+    tried++;
+    stored_more += inside > 1 || all > inside;
+    stored_and_refused += refused && all > 0;
+    ill_formed += !well_formed(s);
+    if (!refused)
+        return;
+    tl_stepped again = tl_step(s.state, a, area_lent, NULL, 0, records, journal_lent);
+    tl_stepped elsewhere = tl_step(s.state, NULL, 0, NULL, 0, NULL, 0);
+    bool same = again.ended == 1 && same_done(again.done, s.done) && elsewhere.ended == 1 && same_done(elsewhere.done, s.done);
+    not_refused_again += !same || differences(area.now, area.before, SMALL) + differences(journal.now, journal.before, SMALL) > 0;
+}
+
+/* States with other places in them, on the buffers as they were kept. */
+static void try_states(tl_steps state)
+{
+    static const uint64_t wide[] = {0, 1, 2, 3, 4, 23, 24, 63, 64, (uint64_t)1 << 32, UINT64_MAX / 16, UINT64_MAX - 7, UINT64_MAX};
+    static const uint32_t narrow[] = {0, 1, 2, 7, 8, 9, 15, 16, 17, 255, 256, UINT32_MAX};
+    for (uint32_t phase = 0; phase < 10; phase++)
+        for (size_t i = 0; i < sizeof wide / sizeof *wide; i++)
+            for (size_t w = 0; w < sizeof wide / sizeof *wide; w++)
+                for (size_t b = 0; b < sizeof narrow / sizeof *narrow; b++) {
+                    state.phase = phase;
+                    state.index = wide[i];
+                    state.word = wide[w];
+                    state.byte = narrow[b];
+                    try_state(state, 64, 64);
+                    try_state(state, 20, 40);
+                    try_state(state, 0, 64);
+                    try_state(state, 64, 0);
+                }
+    memset(&state, 0, sizeof state);
+    try_state(state, 64, 64);
+    memset(&state, 0xff, sizeof state);
+    try_state(state, 64, 64);
+}
+
+static void foreign_states(void)
+{
+    title("foreign state: phase 99 is 17 FOREIGN, and again, with any buffers");
+    put_small();
+    tl_steps state = decide(small_strike, area.now, journal.now).state;
+    state.phase = 99;
+    tl_stepped s = show_step("phase 99", state, 64, 64);
+    s = show_step("the state that it gave", s.state, 64, 64);
+    s = show_step("the state that it gave", s.state, 0, 0);
+    s = show_step("the state that it gave", s.state, 17, 33);
+    show_step("the state that it gave", s.state, 64, 64);
+    title("foreign states: at most one byte is stored, and none where 17 FOREIGN is given, which stays");
+    put_small();
+    keep();
+    try_states(decide(small_strike, area.now, journal.now).state);
+    run_small(48);
+    keep();
+    try_states(state);
+    printf("%u states: %u stored more than one byte, %u stored and gave 17, %u did not give 17 again, %u had numbers before the end\n", tried,
+           stored_more, stored_and_refused, not_refused_again, ill_formed);
+}
+
+/* Every step is handed other buffers: of the area or the journal one byte is changed before it. */
+static void foreign_buffers(void)
+{
+    unsigned calls = 0, more = 0, refused_and_stored = 0;
+    title("foreign buffers: any byte changed before any step, or fewer lent: at most one byte is stored, and none with 17 FOREIGN");
+    put_small();
+    keep();
+    for (unsigned cut = 0; cut < 68; cut++)
+        for (size_t byte = 0; byte < 64 + 64 + 4; byte++) {
+            pair p = both_before();
+            tl_stepped s;
+            bool right = true;
+            run(small_strike, &p, cut, &s, &right);
+            if (byte < 128)
+                (byte < 64 ? p.area : p.journal)[byte % 64] ^= 0x81;
+            size_t area_lent = byte < 128 ? 64 : byte == 128 ? 0 : byte == 129 ? 63 : 64;
+            size_t journal_lent = byte < 128 ? 64 : byte == 130 ? 0 : byte == 131 ? 63 : 64;
+            const pair given = p;
+            s = tl_step(s.state, area_lent == 0 ? NULL : p.area, area_lent, NULL, 0, journal_lent == 0 ? NULL : p.journal, journal_lent);
+            size_t inside = differences(p.area, given.area, area_lent) + differences(p.journal, given.journal, journal_lent);
+            size_t all = differences(p.area, given.area, SMALL) + differences(p.journal, given.journal, SMALL);
+            calls++;
+            more += inside > 1 || all > inside || !right;
+            refused_and_stored += s.ended == 1 && s.done.number == TL_FOREIGN && all > 0;
+        }
+    printf("%u steps: %u stored more than one byte, %u stored and gave 17\n", calls, more, refused_and_stored);
+}
+
 int main(void)
 {
     zero_bytes = calloc(LIMIT + 1 + BEHIND, 1);
@@ -2447,6 +3204,17 @@ int main(void)
     bad_09();
     bad_09_beside_others();
     no_list_check();
+    journal_adds();
+    journal_lengths();
+    journal_refusals();
+    journal_voids_used();
+    journal_aligned();
+    journal_strikes();
+    journal_steps();
+    recoveries();
+    recoveries_refused();
+    foreign_states();
+    foreign_buffers();
     free(zero_bytes);
     return 0;
 }

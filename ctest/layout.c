@@ -43,6 +43,27 @@ FIELD(tl_certified, pass, 4);
 FIELD_OF(8, tl_certified, reading, 8);
 FIELD(tl_certified, at, 16);
 
+SIZE(tl_steps, 72);
+FIELD_OF(8, tl_steps, index, 0);
+FIELD_OF(8, tl_steps, word, 8);
+FIELD(tl_steps, phase, 16);
+FIELD(tl_steps, byte, 20);
+FIELD_OF(12, tl_steps, done, 24);
+FIELD(tl_steps, checksum, 36);
+FIELD(tl_steps, alignment, 40);
+FIELD(tl_steps, used_size, 44);
+FIELD(tl_steps, at, 48);
+FIELD(tl_steps, padding, 52);
+FIELD(tl_steps, tag_id, 56);
+FIELD(tl_steps, data_size, 60);
+FIELD(tl_steps, zeros, 64);
+FIELD(tl_steps, behind, 68);
+
+SIZE(tl_stepped, 88);
+FIELD_OF(72, tl_stepped, state, 0);
+FIELD(tl_stepped, ended, 72);
+FIELD_OF(12, tl_stepped, done, 76);
+
 /* the reading is an IEEE 754 number of 64 bits */
 SIZE(double, 8);
 HOLDS(double_digits, FLT_RADIX == 2 && DBL_MANT_DIG == 53 && DBL_MIN_EXP == -1021 && DBL_MAX_EXP == 1024);
@@ -64,6 +85,8 @@ NUMBER(TL_ALIGN, 11);
 NUMBER(TL_TARGET, 12);
 NUMBER(TL_NONE, 13);
 NUMBER(TL_ROOM, 14);
+NUMBER(TL_JOURNAL, 16);
+NUMBER(TL_FOREIGN, 17);
 NUMBER(TL_CERTIFICATE, 18);
 NUMBER(TL_IDENTITY, 19);
 NUMBER(TL_CONTENTS, 20);

@@ -4,10 +4,11 @@
 
 #include "transfer_list.h"
 
-/* There is no 15, 16 or 17. */
+/* There is no 15. */
 static const char *const names[] = {
     "accepted", "AREA",     "SHORT", "SIGNATURE", "VERSION", "READONLY", "SIZES", "CHECKSUM",
     "ENTRY",    "TAG",      "SHAPE", "ALIGN",     "TARGET",  "NONE",     "ROOM",
+    [TL_JOURNAL] = "JOURNAL", [TL_FOREIGN] = "FOREIGN",
     [TL_CERTIFICATE] = "CERTIFICATE", [TL_IDENTITY] = "IDENTITY", [TL_CONTENTS] = "CONTENTS",
     [TL_FDT] = "FDT"};
 
@@ -27,6 +28,8 @@ static const char *const causes[] = {
     "the target is too long or above 2^48",
     "no such occurrence of the tag, or no such property",
     "there is no room for it",
+    [TL_JOURNAL] = "the journal has a record that is not empty, or too few records for this edit",
+    [TL_FOREIGN] = "the journal is none that an edit of this area left, or the state none that the step before left",
     [TL_CERTIFICATE] = "the list has not exactly one test certificate of 56 bytes",
     [TL_IDENTITY] = "the certificate is that of another valve or another test",
     [TL_CONTENTS] = "the certificate's kind, counts, calibration, limits or reading is not allowed",

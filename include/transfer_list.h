@@ -1,5 +1,6 @@
 /*
  * transfer_list.h: transfer lists of the Firmware Handoff specification: check, find, create, add, void, tidy, relocate.
+ * Of these add, add aligned and void also with a journal, so that a power cut leaves the old list or the new one.
  * Of the test certificate that a list carries: the reading, and pass or fail.
  * Of the device tree that a list carries: check, and the lookup of a property.
  * Of lists still in its edition 0.9: check, find, convert into a current list.
@@ -26,13 +27,15 @@ extern "C" {
  * The number of this interface. It goes up by one when a program that was built against an older header must be rebuilt. Answers are
  * returned by value: a program and an archive of different numbers may overwrite each other's memory, and the linker does not tell.
  *	2  each answer type has `at` as its last field; a program built against the header without it, which had no number, must be rebuilt
+ * A function that is only added does not raise it: a program that calls one does not link with an archive that has none. The functions
+ * with a journal, and their steps, came so.
  */
 #define TL_INTERFACE 2
 
 /*
  * The numbers of refusals. A refusal answers its number, and every other number in the answer is 0, but for `at` of TL_ENTRY: that is the
  * offset, from the start of the area, of the first byte of the first entry in list order that breaks a rule, where its header starts. It
- * is never 0 then, and is 0 in every other answer, refused or not.
+ * is never 0 then, and is 0 in every other answer, refused or not. Of a tl_stepped all this is said of done.
  * In lists of edition 0.9, which the tl09_ functions are for, used_size is called size, and total_size max_size.
  */
 #define TL_ACCEPTED 0u   /* not refused */
@@ -53,7 +56,12 @@ extern "C" {
 #define TL_NONE 13u      /* no such occurrence of the tag; for tl_fdt_find() no such property */
 #define TL_ROOM 14u      /* there is no room for it */
 
-/* Those of tl_certificate() alone. There is no 15, 16 or 17. */
+/* Those of the functions with a journal. There is no 15. */
+#define TL_JOURNAL 16u   /* a record of the journal is not empty, or it has too few records for the edit; it comes after all others */
+#define TL_FOREIGN 17u   /* of a recovery, a record's kind exceeds 2, or a word that it would apply is at no multiple of 8 or reaches */
+                         /* beyond the area; of tl_step(), the state or the buffers are not those that the step before left */
+
+/* Those of tl_certificate() alone. */
 #define TL_CERTIFICATE 18u /* no entry or more than one has tag 0xfff010, or the one that has it is not 56 bytes long */
 #define TL_IDENTITY 19u    /* the certificate's serial or test is not the one asked for */
 #define TL_CONTENTS 20u    /* the kind is not 1, 2 or 3, counts exceed 2^24, a float or the reading is infinite or no number, gain is not */
@@ -100,6 +108,24 @@ typedef struct {
     double reading;  /* the reading, of a pass and of a fail; +0.0 for a refusal */
     uint32_t at;     /* of TL_ENTRY, where the first entry that breaks a rule starts; else 0 */
 } tl_certified;
+
+/*
+ * What stands between two steps of an edit or a recovery. Its fields are the library's own: they are to be handed back as they were given,
+ * and mean nothing to a caller. It has 72 bytes and no padding.
+ */
+typedef struct {
+    uint64_t index, word;
+    uint32_t phase, byte;
+    tl_done done;
+    uint32_t checksum, alignment, used_size, at, padding, tag_id, data_size, zeros, behind;
+} tl_steps;
+
+/* What a call that decides, and each step, answers. It has 88 bytes and no padding. */
+typedef struct {
+    tl_steps state; /* for the next step */
+    uint32_t ended; /* 1 if nothing is to be stored any more, else 0 */
+    tl_done done;   /* if ended, the answer; else every number in it is 0 */
+} tl_stepped;
 
 /**
  * tl_check - check a transfer list
@@ -449,6 +475,260 @@ tl_found tl09_find(const uint8_t *area, size_t len, uint64_t base, uint32_t tag,
  *	TL_ROOM, shift + size + 8 exceeds target_len; so a list whose size is 16,777,216 cannot be converted
  */
 tl_done tl09_convert(const uint8_t *area, size_t len, uint64_t base, uint8_t *target, size_t target_len, uint64_t target_base);
+
+/*
+ * Power cuts. An edit stores many bytes, one after another. Where the area is in memory that keeps its bytes without power and the power
+ * fails in between, the area is neither the old list nor the new one. The functions below make an add, an aligned add or a void with a
+ * journal, a second buffer in memory that keeps its bytes too. After a cut at whatever byte, tl_recover() gives exactly the area as it
+ * was before the edit, or exactly the area that the plain call makes of it. It may be cut as well, any number of times: the one that
+ * runs to its end gives it. So the order of work is:
+ *	once, before the first use: the kind of every record 0, for instance by clearing the whole journal
+ *	at each start, before anything is read from the area or changed in it: tl_recover(), with the same area and journal and with the
+ *	same len and journal_len as the edit had: with fewer records it may miss the commit, and clear what it did not apply
+ *	edits, each with the same journal; also edits without one, which are not safe against a cut, and calls that only read
+ * Until a recovery has run to its end, nothing is to be concluded from the area's bytes, whatever tl_check() says of them.
+ *
+ * The journal is a row of records of 16 bytes, without a header. Only whole records count, journal_len / 16 of them, called R below; up
+ * to 15 bytes may stand behind them, which are never written. A record:
+ *	 0  kind    1 byte   0 empty, 1 a word, 2 the commit
+ *	 1          3 bytes  0
+ *	 4  offset  4 bytes  of a word, where it stands in the area, a multiple of 8; its lowest byte first; of the commit 0
+ *	 8  data    8 bytes  of a word, its eight bytes as the edit leaves them; of the commit 0
+ * A word is eight bytes of the area, from a multiple of 8 on, counted from the area's first byte. Up to 7 bytes behind the last whole
+ * word belong to none, and no edit changes them. An edit changes a word if its eight bytes afterwards differ from those before; the
+ * number of words that it changes is called w below, and is at least 1. Its stores, each of one byte, are in this order:
+ *	a record for each word that it changes, in rising order of offset: bytes 1 to 15, then the kind
+ *	the record of the commit: bytes 1 to 15, then the kind
+ *	the words themselves in the area, in the same order, each with its eight bytes, changed or not
+ *	0 in the kind of each of the R records, first to last, 0 already or not
+ * These are 16 * (w + 1) + 8 * w + R stores. Number 16 * (w + 1) stores the kind of the commit: after a cut before it a recovery gives
+ * the old area, from it on the new one.
+ *
+ * The journal must have at least 16 * (w + 1) bytes. With n bytes of data, and (n + 7) / 8 rounded down, that is at most:
+ *	16 * (4 + (n + 7) / 8)                     an add: two words of the header, the entry's; or one of the header, the entry's, and
+ *	                                           the header of the void behind it
+ *	16 * (3 + (n + 7) / 8 + 2^exponent / 8)    an aligned add, with a padding void of which every byte changes
+ *	16 * (5 + (n + 7) / 8)                     an aligned add where the bytes from used_size to total_size are 0, as this library's
+ *	                                           calls leave them in a list that tl_create() made
+ *	16 * (3 + (n + 7) / 8)                     a void, n being the data_size of the entry, as tl_find() answers it
+ * Any journal_len is allowed; each further record costs one store in every edit and in every recovery.
+ *
+ * What the compiler and the machine may do. What is proved is about the order of the stores in the language that the library is written
+ * in. Within one call a compiler may join plain stores, widen or move them, and a cache may write its lines back in any order. So a
+ * whole call, as tl_add_journalled(), has the order above only as far as its machine code keeps it. (`make cuts` runs that code one
+ * instruction at a time, on a few edits and their recoveries, and recovers from what both buffers hold after each; it cannot look behind
+ * a cache.) A step is one call, of
+ * tl_step(), that stores one byte. So a caller that steps, and where the memory stands behind a cache flushes both buffers after each step,
+ * or the one line of them that the step has changed, has the order above on the machine. For memory that must survive a cut, use the
+ * steps. demo/flush.c has the loop.
+ *
+ * What stays behind. Spent records keep their bytes 1 to 15, and so the journal keeps the data of an add until later records overwrite
+ * them, also after the entry has been struck out. That what was struck out is gone is said of the area. Who wants it gone from the
+ * journal too clears the journal himself, once an edit or a recovery has ended.
+ *
+ * As for every other call, the area, the journal and the data must not overlap.
+ */
+
+/**
+ * tl_add_journalled - add an entry, with a journal
+ * @area: the bytes of the area that holds the list
+ * @len: the number of bytes of the area
+ * @base: the address at which the area stands
+ * @tag: the new entry's tag
+ * @data: the new entry's data
+ * @data_len: the number of bytes of data
+ * @use_voids: whether the entry may take the place of a void
+ * @journal: the bytes of the journal, the kind of each record 0
+ * @journal_len: the number of bytes of the journal
+ *
+ * tl_add_journalled() leaves the area as tl_add() does, by the stores above. Afterwards the kind of each record is 0.
+ *
+ * returns:
+ *	number 0, and the offset of the new data
+ *	each refusal of tl_add(), TL_ENTRY with its `at`
+ *	TL_JOURNAL, the kind of some whole record is not 0, whether the edit would use the record or not, or w + 1 exceeds R; it comes after
+ *	all others. With under 32 bytes of journal no edit is accepted. A refused call stores nothing in either buffer. Where a kind is not 0 an edit was
+ *	cut: call tl_recover() first
+ */
+tl_done tl_add_journalled(uint8_t *area, size_t len, uint64_t base, uint32_t tag, const uint8_t *data, size_t data_len, bool use_voids,
+                          uint8_t *journal, size_t journal_len);
+
+/**
+ * tl_add_aligned_journalled - add an entry whose data address is a multiple of a power of two, with a journal
+ * @area: the bytes of the area that holds the list
+ * @len: the number of bytes of the area
+ * @base: the address at which the area stands
+ * @tag: the new entry's tag
+ * @data: the new entry's data
+ * @data_len: the number of bytes of data
+ * @exponent: the power of two's exponent
+ * @journal: the bytes of the journal, the kind of each record 0
+ * @journal_len: the number of bytes of the journal
+ *
+ * tl_add_aligned_journalled() leaves the area as tl_add_aligned() does, by the stores above. Afterwards the kind of each record is 0.
+ *
+ * returns:
+ *	number 0, and the offset of the new data
+ *	each refusal of tl_add_aligned(), TL_ENTRY with its `at`
+ *	TL_JOURNAL, as tl_add_journalled()
+ */
+tl_done tl_add_aligned_journalled(uint8_t *area, size_t len, uint64_t base, uint32_t tag, const uint8_t *data, size_t data_len,
+                                  uint32_t exponent, uint8_t *journal, size_t journal_len);
+
+/**
+ * tl_void_journalled - strike an entry out, with a journal
+ * @area: the bytes of the area that holds the list
+ * @len: the number of bytes of the area
+ * @base: the address at which the area stands
+ * @tag: the entry's tag
+ * @n: which occurrence of the tag, counted from 0 in list order
+ * @journal: the bytes of the journal, the kind of each record 0
+ * @journal_len: the number of bytes of the journal
+ *
+ * tl_void_journalled() leaves the area as tl_void() does, by the stores above. Afterwards the kind of each record is 0. The entry's data
+ * are gone from the area; where an add with this journal put them in, they may still stand in a spent record.
+ *
+ * returns:
+ *	number 0, and the offset of the voided entry
+ *	each refusal of tl_void(), TL_ENTRY with its `at`
+ *	TL_JOURNAL, as tl_add_journalled()
+ */
+tl_done tl_void_journalled(uint8_t *area, size_t len, uint64_t base, uint32_t tag, uint64_t n, uint8_t *journal, size_t journal_len);
+
+/**
+ * tl_recover - finish or drop what a power cut left in the journal
+ * @area: the bytes of the area
+ * @len: the number of bytes of the area
+ * @journal: the bytes of the journal
+ * @journal_len: the number of bytes of the journal
+ *
+ * tl_recover() looks for the first record whose kind is not 1. If it is a commit, the words of the records before it are stored in the
+ * area, in their order, each with its eight bytes. If it is empty, or there is none, no word is stored. Then, in either case, 0 is
+ * stored in the kind of each of the R records, first to last. Records behind the commit are not applied, and are cleared as well.
+ *
+ * It makes no check but the one for TL_FOREIGN, and takes any bytes for records: not the list, nor a base, nor a limit of len, nor
+ * bytes 1 to 3 of a record, nor the bytes of the commit, nor whether an offset comes twice (the later one stays) is judged. So it may be
+ * called at each start, and again, and with a journal in which nothing is; but hand it only a journal that was cleared before its first
+ * use, and the area that this journal is for. Which of the two areas it gave is not answered; whether the edit's entry is there,
+ * tl_find() shows.
+ *
+ * returns:
+ *	number 0, and value 0; without a whole record too
+ *	TL_FOREIGN, the kind of some whole record exceeds 2, behind the commit too, or a word that is to be stored has an offset that is
+ *	no multiple of 8, or one whose sum with 8 exceeds len (no sum wraps). All this is judged before the first store, and nothing changes.
+ *	No edit of this area left such a journal: it is another's, or the memory has lost its bytes
+ */
+tl_done tl_recover(uint8_t *area, size_t len, uint8_t *journal, size_t journal_len);
+
+/**
+ * tl_add_steps - decide on an add that is to be made in steps
+ * @area: the bytes of the area that holds the list
+ * @len: the number of bytes of the area
+ * @base: the address at which the area stands
+ * @tag: the new entry's tag
+ * @data: the new entry's data
+ * @data_len: the number of bytes of data
+ * @use_voids: whether the entry may take the place of a void
+ * @journal: the bytes of the journal, the kind of each record 0
+ * @journal_len: the number of bytes of the journal
+ *
+ * tl_add_steps() makes every check of tl_add_journalled() and stores nothing. If none refuses, tl_step() then makes the stores, one byte
+ * in each call, 16 * (w + 1) + 8 * w + R of them. Run to the end, the steps leave both buffers as tl_add_journalled() does, and the last
+ * one gives its answer.
+ *
+ * returns:
+ *	ended 0, every number in done 0, and the state for the first step
+ *	ended 1, and in done the refusal, as tl_add_journalled() answers it
+ */
+tl_stepped tl_add_steps(const uint8_t *area, size_t len, uint64_t base, uint32_t tag, const uint8_t *data, size_t data_len, bool use_voids,
+                        const uint8_t *journal, size_t journal_len);
+
+/**
+ * tl_add_aligned_steps - decide on an aligned add that is to be made in steps
+ * @area: the bytes of the area that holds the list
+ * @len: the number of bytes of the area
+ * @base: the address at which the area stands
+ * @tag: the new entry's tag
+ * @data: the new entry's data
+ * @data_len: the number of bytes of data
+ * @exponent: the power of two's exponent
+ * @journal: the bytes of the journal, the kind of each record 0
+ * @journal_len: the number of bytes of the journal
+ *
+ * tl_add_aligned_steps() is to tl_add_aligned_journalled() what tl_add_steps() is to tl_add_journalled(). It stores nothing.
+ *
+ * returns:
+ *	ended 0, every number in done 0, and the state for the first step
+ *	ended 1, and in done the refusal, as tl_add_aligned_journalled() answers it
+ */
+tl_stepped tl_add_aligned_steps(const uint8_t *area, size_t len, uint64_t base, uint32_t tag, const uint8_t *data, size_t data_len,
+                                uint32_t exponent, const uint8_t *journal, size_t journal_len);
+
+/**
+ * tl_void_steps - decide on a void that is to be made in steps
+ * @area: the bytes of the area that holds the list
+ * @len: the number of bytes of the area
+ * @base: the address at which the area stands
+ * @tag: the entry's tag
+ * @n: which occurrence of the tag, counted from 0 in list order
+ * @journal: the bytes of the journal, the kind of each record 0
+ * @journal_len: the number of bytes of the journal
+ *
+ * tl_void_steps() is to tl_void_journalled() what tl_add_steps() is to tl_add_journalled(). It stores nothing.
+ *
+ * returns:
+ *	ended 0, every number in done 0, and the state for the first step
+ *	ended 1, and in done the refusal, as tl_void_journalled() answers it
+ */
+tl_stepped tl_void_steps(const uint8_t *area, size_t len, uint64_t base, uint32_t tag, uint64_t n, const uint8_t *journal, size_t journal_len);
+
+/**
+ * tl_recover_steps - decide on a recovery that is to be made in steps
+ * @area: the bytes of the area
+ * @len: the number of bytes of the area
+ * @journal: the bytes of the journal
+ * @journal_len: the number of bytes of the journal
+ *
+ * tl_recover_steps() makes the check of tl_recover() and stores nothing. tl_step() then makes the stores of tl_recover(), one byte in
+ * each call: eight for each word that is to be stored, and R. Run to the end, the steps leave both buffers as tl_recover() does.
+ *
+ * returns:
+ *	ended 0, every number in done 0, and the state for the first step
+ *	ended 1, and in done number 0 and value 0, the journal has no whole record
+ *	ended 1, and in done TL_FOREIGN, as tl_recover()
+ */
+tl_stepped tl_recover_steps(const uint8_t *area, size_t len, const uint8_t *journal, size_t journal_len);
+
+/**
+ * tl_step - store the next byte of an edit or a recovery
+ * @state: the state that the call that decided, or the step before, answered
+ * @area: the bytes of the area that was given to the call that decided, as the step before left them
+ * @len: the number of bytes of the area, the same as then
+ * @data: of an add, the same data as were given to the call that decided; of a void or a recovery, NULL
+ * @data_len: the number of bytes of data, the same as then; of a void or a recovery, 0
+ * @journal: the bytes of the journal that was given to the call that decided, as the step before left them
+ * @journal_len: the number of bytes of the journal, the same as then
+ *
+ * tl_step() stores one byte, in the area or in the journal, the next in the order above. The state is a value, kept by the caller, in
+ * any memory: after a cut it is of no more use, and a recovery does not need it. Nobody else may change the area, the journal or the
+ * data from the call that decided to the last step. Steps need not be run to the end: a recovery afterwards gives the old area or the
+ * new one, as after a cut. Until that recovery no other edit may be made, not even a plain one: the recovery might undo parts of it.
+ * From any state, a loop until ended is 1 ends, after at most 25 * R + 3 steps.
+ *
+ * After the end, which a refusal by the call that decided is too, a step stores nothing and gives the same answer again.
+ *
+ * Handed another state, or buffers other than the step before left, a step still ends and stays within the memory that it is lent. It
+ * stores at most one byte of it, or it stores nothing and answers TL_FOREIGN. It does not notice every such state or buffer: a byte that
+ * it then stores may be any, so do not count on TL_FOREIGN.
+ *
+ * returns:
+ *	ended 0, every number in done 0, and the state for the next step: a byte was stored, and more are to be
+ *	ended 1, and in done number 0 and the value: the last byte, if any, was stored, now or by an earlier step
+ *	ended 1, and in done the refusal of the call that decided: nothing was stored
+ *	ended 1, and in done TL_FOREIGN: nothing was stored; a step with the state that is given with it stores nothing and answers the
+ *	same, whatever buffers it is handed
+ */
+tl_stepped tl_step(tl_steps state, uint8_t *area, size_t len, const uint8_t *data, size_t data_len, uint8_t *journal, size_t journal_len);
 
 #ifdef __cplusplus
 }

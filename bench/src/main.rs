@@ -1,6 +1,7 @@
 //! Times the library beside plain Rust in one run, both fully optimised, and its device trees beside libfdt too: `make bench`.
 mod fdt;
 mod growth;
+mod journal;
 mod lists;
 mod plain;
 mod plain_fdt;
@@ -259,6 +260,7 @@ fn main() {
         rows(length);
     }
     short_rows();
+    journal::rows();
     growth::table();
     fdt::rows();
 }

@@ -1,6 +1,7 @@
 //! Makes each call on the library and on the model and compares the whole answer and every byte of
 //! every buffer lent, guard bytes included.
 
+use crate::journal_counts::JournalCounts;
 use crate::large_sights;
 use crate::lent::{Guards, Lent};
 use crate::library;
@@ -11,6 +12,7 @@ use oracle::entry_sights::EntrySights;
 use oracle::fdt_breaks::Breaks;
 use oracle::fdt_found::Finds;
 use oracle::fdt_sights;
+use oracle::journal_sights::JournalSights;
 use oracle::lists::{List, MOST_LENT};
 use oracle::lists_certificate;
 use oracle::model::{self, Answer, Checked, Edition, Found};
@@ -22,7 +24,7 @@ use oracle::tally::{Call, Tally};
 use std::fmt::Write;
 
 /// How often each call is made on a list; a check, a create and a tidy once. A tidy is made once more on
-/// its own result, with up to two adds before and after it.
+/// its own result, with up to two adds before and after it. Each edit is made with a journal too.
 pub struct Times {
     pub finds: usize,
     pub adds: usize,
@@ -39,6 +41,8 @@ const OWN: Times =
 /// Calls of the other edition, which mostly look no further than the signature.
 const OTHER: Times =
     Times { finds: 1, adds: 1, aligned_adds: 1, voids: 1, relocations: 1, certificates: 1, conversions: 1 };
+/// Recoveries of a list's area, which look at nothing in it.
+const RECOVERIES: usize = 2;
 
 pub struct Bench {
     pub tally: Tally,
@@ -51,6 +55,12 @@ pub struct Bench {
     pub fdt_sights: fdt_sights::Sights,
     pub fdt_breaks: Breaks,
     pub fdt_finds: Finds,
+    /// What the journals hold that edits and recoveries are given; each list has its own seed.
+    pub journals: Rng,
+    /// Of the edits, one in so many is made with a journal too.
+    pub with_journal: u64,
+    pub journal_sights: JournalSights,
+    pub journal_counts: JournalCounts,
     pub guards: Guards,
     /// What a run on large lists has met; none in a run on many lists.
     pub large: Option<large_sights::Sights>,
@@ -83,6 +93,10 @@ impl Bench {
             fdt_sights: fdt_sights::Sights::default(),
             fdt_breaks: Breaks::default(),
             fdt_finds: Finds::default(),
+            journals: Rng::new(seed),
+            with_journal: 1,
+            journal_sights: JournalSights::default(),
+            journal_counts: JournalCounts::default(),
             guards: Guards::new(seed),
             large: None,
         }
@@ -117,6 +131,9 @@ impl Bench {
         for _ in 0..times.certificates {
             let (serial, test) = lists_certificate::asked(rng, &list.area);
             self.certificate(list, serial, test)?;
+        }
+        for _ in 0..RECOVERIES {
+            self.any_recovery(&list.area)?;
         }
         Ok(())
     }
@@ -184,7 +201,7 @@ impl Bench {
         Err(format!("{inputs}\n  model   {wanted:?}\n  library {given:?}\n  {bytes}{place}"))
     }
 
-    fn differing_byte(&self, buffer: &Buffer) -> Option<String> {
+    pub fn differing_byte(&self, buffer: &Buffer) -> Option<String> {
         let (place, wanted, given) = self.guards.first_difference(buffer.lent, buffer.wanted)?;
         Some(format!("{}, byte {place}: model {wanted:02x}, library {given:02x}", buffer.name))
     }
@@ -197,7 +214,7 @@ impl Asked<'_> {
     }
 
     /// The call with all its inputs.
-    fn with_inputs(&self, buffers: &[Buffer]) -> String {
+    pub fn with_inputs(&self, buffers: &[Buffer]) -> String {
         let mut report = format!("difference in {}\n  {}", self.call.name(), (self.numbers)());
         for buffer in buffers {
             write!(report, "\n  {} {}", buffer.name, hex(buffer.before)).unwrap();

@@ -1,4 +1,4 @@
-//! The comparisons of create, add, add aligned and void.
+//! The comparisons of create, add, add aligned and void; each edit is made with a journal too (`journalled`).
 
 use crate::compare::{untouched, Asked, Bench, Buffer, Times};
 use crate::lent::Lent;
@@ -89,6 +89,7 @@ impl Bench {
             let held = demand::after_edit(&list.area, &after, list.base, edit, wanted.value);
             asked.demand(held, &buffers)?;
         }
+        self.journalled(list, edit, &after, wanted)?;
         Ok((wanted, area))
     }
 }
@@ -108,7 +109,7 @@ pub fn data_of<'a>(edit: &Edit<'a>) -> &'a [u8] {
     }
 }
 
-fn numbers_of(edit: &Edit) -> String {
+pub fn numbers_of(edit: &Edit) -> String {
     match *edit {
         Edit::Add { tag, use_voids, .. } => format!("tag {tag:#x}, use_voids {use_voids}"),
         Edit::AddAligned { tag, exponent, .. } => format!("tag {tag:#x}, exponent {exponent}"),

@@ -7,7 +7,7 @@ use crate::tally::Call;
 use std::fmt::Write;
 
 /// The calls that make the check.
-const CALLS: [Call; 11] = [
+const CALLS: [Call; 17] = [
     Call::Check,
     Call::Find,
     Call::Add,
@@ -19,6 +19,12 @@ const CALLS: [Call; 11] = [
     Call::Check09,
     Call::Find09,
     Call::Convert09,
+    Call::AddJournalled,
+    Call::AddAlignedJournalled,
+    Call::VoidJournalled,
+    Call::AddSteps,
+    Call::AddAlignedSteps,
+    Call::VoidSteps,
 ];
 
 /// Those that read lists of later versions; to the others these are READONLY.
@@ -136,18 +142,18 @@ impl EntrySights {
 
     /// The places, and then the other sorts.
     pub fn table(&self, title: &str) -> String {
-        let mut table = format!("{title:<15}");
+        let mut table = format!("{title:<26}");
         WAYS.iter().for_each(|(_, way)| write!(table, "   {way:<33}").unwrap());
-        write!(table, "\n{:<15}", "").unwrap();
+        write!(table, "\n{:<26}", "").unwrap();
         WAYS.iter().flat_map(|_| POSITIONS).for_each(|one| write!(table, "{one:>9}").unwrap());
         for (seen, call) in self.seen.iter().zip(CALLS) {
-            write!(table, "\n{:<15}", call.name()).unwrap();
+            write!(table, "\n{:<26}", call.name()).unwrap();
             seen.places.iter().flatten().for_each(|seen| write!(table, "{seen:>9}").unwrap());
         }
-        write!(table, "\n{title:<15}").unwrap();
+        write!(table, "\n{title:<26}").unwrap();
         SORTS.iter().for_each(|(name, ..)| write!(table, "{name:>18}").unwrap());
         for (seen, call) in self.seen.iter().zip(CALLS) {
-            write!(table, "\n{:<15}", call.name()).unwrap();
+            write!(table, "\n{:<26}", call.name()).unwrap();
             seen.sorts.iter().for_each(|seen| write!(table, "{seen:>18}").unwrap());
         }
         table

@@ -22,10 +22,10 @@ pub const BASE: u64 = (1 << HIGHEST_ALIGNMENT) - 192;
 pub const TAG: u32 = 1;
 pub const SMALL: usize = 256;
 /// Cut to 32 bits this is SMALL.
-const HUGE: usize = (1 << 32) + SMALL;
+pub const HUGE: usize = (1 << 32) + SMALL;
 
 const DATA: [u8; 3] = [5, 6, 7];
-const EDITS: [Edit; 5] = [
+pub const EDITS: [Edit; 5] = [
     Edit::Add { tag: TAG, data: &DATA, use_voids: false },
     Edit::Add { tag: TAG, data: &DATA, use_voids: true },
     Edit::AddAligned { tag: TAG, data: &DATA, exponent: 4 },
@@ -34,7 +34,7 @@ const EDITS: [Edit; 5] = [
 ];
 
 /// A list with an entry, a certificate and a void, and room for more.
-fn small_list() -> Vec<u8> {
+pub fn small_list() -> Vec<u8> {
     let mut list = vec![0; SMALL];
     model::create(&mut list, BASE, true);
     model::add(&mut list, BASE, TAG, &[1, 2, 3], false);

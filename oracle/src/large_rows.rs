@@ -15,6 +15,8 @@ use oracle::rng::Rng;
 /// Lists from the seed, and the calls made on each.
 const LISTS: u64 = 2000;
 const CALLS: usize = 16;
+/// Of the edits, one in so many is made with a journal too.
+const WITH_JOURNAL: u64 = 8;
 /// 2^16 and 2^24 bytes.
 const BITS: std::ops::Range<u64> = 16..24;
 
@@ -74,6 +76,7 @@ fn padding(list: &List, exponent: u32) -> usize {
 
 impl Bench {
     pub fn large_rows(&mut self, seed: u64) -> Result<(), String> {
+        self.with_journal = WITH_JOURNAL;
         for index in 0..LISTS {
             let seed = seed.wrapping_add(index);
             watch::part(&again(seed, "rows"));
@@ -84,6 +87,7 @@ impl Bench {
 
     fn row(&mut self, seed: u64) -> Result<(), String> {
         let rng = &mut Rng::new(seed);
+        self.journals = Rng::new(!seed);
         let mut list = first_list(rng);
         if list.edition == Edition::E09 {
             self.check09(&list)?;

@@ -23,7 +23,7 @@ const MOVES: [Call; 2] = [Call::Relocate, Call::Convert09];
 #[derive(Clone, Copy, Default)]
 struct Seen {
     /// On areas, or device trees, of these lengths. They count where the call is accepted, and lists of the last
-    /// length where it is AREA.
+    /// length where it is AREA, but for recovery and steps, which make no such check.
     lengths: [u64; LENGTHS.len()],
     /// On accepted lists with a large entry.
     large_entry: u64,
@@ -48,9 +48,19 @@ fn is_for_trees(call: Call) -> bool {
     matches!(call, Call::FdtCheck | Call::FdtFind)
 }
 
+/// Whether the call makes no check of the area: recovery, and a step after the deciding call.
+fn takes_any_area(call: Call) -> bool {
+    matches!(call, Call::Recover | Call::RecoverSteps | Call::Step)
+}
+
 /// Whether the call reads a list.
 fn reads_a_list(call: Call) -> bool {
-    !is_for_trees(call) && call != Call::Create
+    !is_for_trees(call) && !takes_any_area(call) && call != Call::Create
+}
+
+/// Whether the call has an exponent, which is counted instead of its list's alignment.
+fn has_exponent(call: Call) -> bool {
+    matches!(call, Call::AddAligned | Call::AddAlignedJournalled | Call::AddAlignedSteps)
 }
 
 /// The index among `all`, where it is there.
@@ -72,7 +82,7 @@ impl Sights {
     }
 
     fn length(&mut self, call: Call, number: u32, length: usize) {
-        let is_too_long = length == TOO_LONG && !is_for_trees(call);
+        let is_too_long = length == TOO_LONG && !is_for_trees(call) && !takes_any_area(call);
         let wanted = if is_too_long { AREA } else { 0 };
         if let Some(index) = index_of(&LENGTHS, length).filter(|_| number == wanted) {
             self.calls[call as usize].lengths[index] += 1;
@@ -89,7 +99,7 @@ impl Sights {
 
     /// Counts the alignment and, of a list that has passed checks 1 to 8, what stands in it.
     fn list(&mut self, call: Call, number: u32, area: &[u8]) {
-        if let Some(alignment) = area.get(field::ALIGNMENT).filter(|_| call != Call::AddAligned) {
+        if let Some(alignment) = area.get(field::ALIGNMENT).filter(|_| !has_exponent(call)) {
             self.alignment(call, u32::from(*alignment), number, SIZES);
         }
         if (AREA..=ENTRY).contains(&number) {
@@ -135,6 +145,14 @@ impl Sights {
         }
     }
 
+    /// Counts an edit with a journal.
+    pub fn journalled(&mut self, edit: &Edit, number: u32) {
+        if let Edit::AddAligned { exponent, .. } = *edit {
+            self.alignment(Call::AddAlignedJournalled, exponent, number, ALIGN);
+            self.alignment(Call::AddAlignedSteps, exponent, number, ALIGN);
+        }
+    }
+
     /// Counts what a find of either edition found; a refusal's size is 0.
     pub fn found(&mut self, call: Call, found: &Found) {
         let which = if call == Call::Find { Largest::Found } else { Largest::Found09 };
@@ -155,7 +173,7 @@ impl Sights {
 
 /// A line of numbers behind its name.
 fn line(name: &str, numbers: &[u64]) -> String {
-    let mut line = format!("{name:<24}");
+    let mut line = format!("{name:<26}");
     numbers.iter().for_each(|number| write!(line, "{number:>10}").unwrap());
     line
 }

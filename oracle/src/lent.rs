@@ -20,11 +20,16 @@ impl Lent {
         self.len
     }
 
+    /// Whether it is lent as NULL.
+    pub fn is_null(&self) -> bool {
+        self.len == 0 && self.start.is_multiple_of(2)
+    }
+
     /// Where the library finds the bytes. It may write where it should not, to a buffer it only
     /// reads or to a guard, and that must be seen; so the pointer is good for writing everywhere.
     /// Every second empty buffer is lent as NULL, as C code does that has nothing to lend.
     pub fn pointer(&mut self) -> *mut u8 {
-        if self.len == 0 && self.start % 2 == 0 {
+        if self.is_null() {
             return std::ptr::null_mut();
         }
         self.held.as_mut_ptr().wrapping_add(self.start)

@@ -1,6 +1,7 @@
 //! The library under test, through its C interface.
 
 use crate::lent::Lent;
+use crate::steps::{Stepped, Steps};
 use crate::watch;
 use oracle::model::{Checked, Done, Found};
 use oracle::model_certificate::Certified;
@@ -20,6 +21,22 @@ extern "C" {
     fn tl_relocate(area: *const u8, len: usize, base: u64,
                    target: *mut u8, target_len: usize, target_base: u64) -> Done;
     fn tl_tidy(area: *mut u8, len: usize, base: u64) -> Done;
+    fn tl_add_journalled(area: *mut u8, len: usize, base: u64, tag: u32, data: *const u8, data_len: usize,
+                         use_voids: bool, journal: *mut u8, journal_len: usize) -> Done;
+    fn tl_add_aligned_journalled(area: *mut u8, len: usize, base: u64, tag: u32, data: *const u8, data_len: usize,
+                                 exponent: u32, journal: *mut u8, journal_len: usize) -> Done;
+    fn tl_void_journalled(area: *mut u8, len: usize, base: u64, tag: u32, n: u64,
+                          journal: *mut u8, journal_len: usize) -> Done;
+    fn tl_recover(area: *mut u8, len: usize, journal: *mut u8, journal_len: usize) -> Done;
+    fn tl_add_steps(area: *const u8, len: usize, base: u64, tag: u32, data: *const u8, data_len: usize,
+                    use_voids: bool, journal: *const u8, journal_len: usize) -> Stepped;
+    fn tl_add_aligned_steps(area: *const u8, len: usize, base: u64, tag: u32, data: *const u8, data_len: usize,
+                            exponent: u32, journal: *const u8, journal_len: usize) -> Stepped;
+    fn tl_void_steps(area: *const u8, len: usize, base: u64, tag: u32, n: u64,
+                     journal: *const u8, journal_len: usize) -> Stepped;
+    fn tl_recover_steps(area: *const u8, len: usize, journal: *const u8, journal_len: usize) -> Stepped;
+    fn tl_step(state: Steps, area: *mut u8, len: usize, data: *const u8, data_len: usize,
+               journal: *mut u8, journal_len: usize) -> Stepped;
     fn tl_certificate(area: *const u8, len: usize, base: u64, serial: u64, test: u64) -> Certified;
     fn tl_fdt_check(data: *const u8, len: usize) -> u32;
     fn tl_fdt_find(data: *const u8, len: usize, path: *const u8, path_len: usize,
@@ -105,4 +122,75 @@ pub fn find09(area: &mut Lent, base: u64, tag: u32, n: u64) -> Found {
 pub fn convert09(area: &mut Lent, base: u64, target: &mut Lent, target_base: u64) -> Done {
     watch::call(Call::Convert09);
     unsafe { tl09_convert(area.pointer(), area.len(), base, target.pointer(), target.len(), target_base) }
+}
+
+/// The buffers of a call with a journal.
+pub struct Three {
+    pub area: Lent,
+    pub data: Lent,
+    pub journal: Lent,
+}
+
+pub fn add_journalled(lent: &mut Three, base: u64, tag: u32, use_voids: bool) -> Done {
+    watch::call(Call::AddJournalled);
+    let Three { area, data, journal } = lent;
+    let (len, data_len, journal_len) = (area.len(), data.len(), journal.len());
+    let (area, data, journal) = (area.pointer(), data.pointer(), journal.pointer());
+    unsafe { tl_add_journalled(area, len, base, tag, data, data_len, use_voids, journal, journal_len) }
+}
+
+pub fn add_aligned_journalled(lent: &mut Three, base: u64, tag: u32, exponent: u32) -> Done {
+    watch::call(Call::AddAlignedJournalled);
+    let Three { area, data, journal } = lent;
+    let (len, data_len, journal_len) = (area.len(), data.len(), journal.len());
+    let (area, data, journal) = (area.pointer(), data.pointer(), journal.pointer());
+    unsafe { tl_add_aligned_journalled(area, len, base, tag, data, data_len, exponent, journal, journal_len) }
+}
+
+pub fn void_journalled(lent: &mut Three, base: u64, tag: u32, n: u64) -> Done {
+    watch::call(Call::VoidJournalled);
+    let Three { area, journal, .. } = lent;
+    unsafe { tl_void_journalled(area.pointer(), area.len(), base, tag, n, journal.pointer(), journal.len()) }
+}
+
+pub fn recover(lent: &mut Three) -> Done {
+    watch::call(Call::Recover);
+    let Three { area, journal, .. } = lent;
+    unsafe { tl_recover(area.pointer(), area.len(), journal.pointer(), journal.len()) }
+}
+
+pub fn add_steps(lent: &mut Three, base: u64, tag: u32, use_voids: bool) -> Stepped {
+    watch::call(Call::AddSteps);
+    let Three { area, data, journal } = lent;
+    let (len, data_len, journal_len) = (area.len(), data.len(), journal.len());
+    let (area, data, journal) = (area.pointer(), data.pointer(), journal.pointer());
+    unsafe { tl_add_steps(area, len, base, tag, data, data_len, use_voids, journal, journal_len) }
+}
+
+pub fn add_aligned_steps(lent: &mut Three, base: u64, tag: u32, exponent: u32) -> Stepped {
+    watch::call(Call::AddAlignedSteps);
+    let Three { area, data, journal } = lent;
+    let (len, data_len, journal_len) = (area.len(), data.len(), journal.len());
+    let (area, data, journal) = (area.pointer(), data.pointer(), journal.pointer());
+    unsafe { tl_add_aligned_steps(area, len, base, tag, data, data_len, exponent, journal, journal_len) }
+}
+
+pub fn void_steps(lent: &mut Three, base: u64, tag: u32, n: u64) -> Stepped {
+    watch::call(Call::VoidSteps);
+    let Three { area, journal, .. } = lent;
+    unsafe { tl_void_steps(area.pointer(), area.len(), base, tag, n, journal.pointer(), journal.len()) }
+}
+
+pub fn recover_steps(lent: &mut Three) -> Stepped {
+    watch::call(Call::RecoverSteps);
+    let Three { area, journal, .. } = lent;
+    unsafe { tl_recover_steps(area.pointer(), area.len(), journal.pointer(), journal.len()) }
+}
+
+pub fn step(state: Steps, lent: &mut Three) -> Stepped {
+    watch::call(Call::Step);
+    let Three { area, data, journal } = lent;
+    let (len, data_len, journal_len) = (area.len(), data.len(), journal.len());
+    let (area, data, journal) = (area.pointer(), data.pointer(), journal.pointer());
+    unsafe { tl_step(state, area, len, data, data_len, journal, journal_len) }
 }

@@ -1,4 +1,4 @@
-//! Compares libtransfer_list.a with the model of document 01 and of document 02, requests 1 to 3 and 5 to 8,
+//! Compares libtransfer_list.a with the model of document 01 and of document 02, requests 1 to 3 and 5 to 9,
 //! on many lists and device trees; and on large ones.
 //!
 //! `oracle [LISTS [SEED]]`; the list after that of seed S is the one of seed S + 1.
@@ -18,18 +18,29 @@ mod edges_fdt;
 mod edges_fdt_large;
 mod edges_fdt_paths;
 mod edges_fdt_small;
+mod edges_journal;
 mod edges_reading;
+mod edges_recovery;
 mod edges_tidy;
 mod edges_words;
 mod edits;
+mod foreign_states;
+mod foreign_steps;
 mod huge;
 mod huge09;
 mod huge_fdt;
+mod huge_journal;
+mod job;
+mod journal_counts;
+mod journal_cuts;
+mod journal_steps;
+mod journalled;
 mod large;
 mod large_alignments;
 mod large_entries;
 mod large_fdt;
 mod large_full;
+mod large_journal;
 mod large_lengths;
 mod large_lists;
 mod large_moves;
@@ -40,6 +51,7 @@ mod large_sights;
 mod lent;
 mod library;
 mod relocations;
+mod steps;
 mod tidies;
 mod watch;
 
@@ -102,20 +114,28 @@ fn run(lists: u64, seed: u64) -> Result<(), String> {
     bench.huge_lengths()?;
     bench.device_trees(seed)?;
     bench.edges_entry()?;
+    bench.edges_journal()?;
+    bench.edges_recovery()?;
+    bench.edges_cuts(seed)?;
+    bench.edges_foreign(seed)?;
+    bench.huge_journals()?;
     println!("{}\n{}\n{}", bench.tally.table(), alignments.table(), bench.event_logs.table());
     println!("{}\n{}\n{}", bench.added_certificates.table(), runs.table(), bench.sights.table());
     println!("{}\n{}\n{}", bench.fdt_sights.table(), bench.fdt_finds.table(), bench.fdt_breaks.table());
     println!("{}\n{}", bad_entries.table("8, by chance"), bench.entry_sights.table("8, on purpose"));
+    println!("{}\n{}", bench.journal_sights.table(), bench.journal_counts.table());
     let adds = [alignments.unseen(), bench.event_logs.unseen(), bench.added_certificates.unseen()].concat();
     let trees = [bench.fdt_sights.unseen(), bench.fdt_finds.unseen(), bench.fdt_breaks.unseen()].concat();
     let entries = [runs.unseen(), bench.entry_sights.unseen(), bench.sights.unseen()].concat();
-    let unseen = [bench.tally.unseen(), adds, entries, trees].concat();
+    let journals = [bench.journal_sights.unseen(), bench.journal_counts.unseen()].concat();
+    let unseen = [bench.tally.unseen(), adds, entries, trees, journals].concat();
     if !unseen.is_empty() {
         return Err(unseen.join("\n"));
     }
     println!("{} certificates judged", bench.sights.judged());
     let (trees, accepted) = bench.tally.made(Call::FdtCheck);
     println!("{trees} device trees checked, {accepted} of them accepted");
+    println!("{}", bench.journal_counts.line());
     println!("{lists} lists, {} calls, no difference", bench.tally.calls());
     Ok(())
 }
@@ -125,6 +145,7 @@ fn one_list(bench: &mut Bench, seed: u64) -> Result<(), String> {
     let mut rng = Rng::new(seed);
     let (list, made) = lists::any_as_made(&mut rng);
     bench.entry_sights.turn_to(made);
+    bench.journals = Rng::new(!seed);
     bench.list(&mut rng, &list).map_err(|report| format!("{report}\n{}", again(seed)))
 }
 

@@ -3,8 +3,8 @@
 use std::fmt::Write;
 
 /// The numbers of refusals that some call can answer, and 0.
-const NUMBERS: [u32; 19] = [0, 1, 2, 3, 4, 5, 6, 7, 8, 9, 10, 11, 12, 13, 14, 18, 19, 20, 21];
-const CALLS: usize = 14;
+const NUMBERS: [u32; 21] = [0, 1, 2, 3, 4, 5, 6, 7, 8, 9, 10, 11, 12, 13, 14, 16, 17, 18, 19, 20, 21];
+const CALLS: usize = 23;
 
 #[derive(Clone, Copy, PartialEq, Eq)]
 pub enum Call {
@@ -22,6 +22,15 @@ pub enum Call {
     Check09,
     Find09,
     Convert09,
+    AddJournalled,
+    AddAlignedJournalled,
+    VoidJournalled,
+    Recover,
+    AddSteps,
+    AddAlignedSteps,
+    VoidSteps,
+    RecoverSteps,
+    Step,
 }
 
 impl Call {
@@ -40,6 +49,15 @@ impl Call {
         Call::Check09,
         Call::Find09,
         Call::Convert09,
+        Call::AddJournalled,
+        Call::AddAlignedJournalled,
+        Call::VoidJournalled,
+        Call::Recover,
+        Call::AddSteps,
+        Call::AddAlignedSteps,
+        Call::VoidSteps,
+        Call::RecoverSteps,
+        Call::Step,
     ];
 
     /// The call's name in the C interface.
@@ -59,11 +77,20 @@ impl Call {
             Call::Check09 => "tl09_check",
             Call::Find09 => "tl09_find",
             Call::Convert09 => "tl09_convert",
+            Call::AddJournalled => "tl_add_journalled",
+            Call::AddAlignedJournalled => "tl_add_aligned_journalled",
+            Call::VoidJournalled => "tl_void_journalled",
+            Call::Recover => "tl_recover",
+            Call::AddSteps => "tl_add_steps",
+            Call::AddAlignedSteps => "tl_add_aligned_steps",
+            Call::VoidSteps => "tl_void_steps",
+            Call::RecoverSteps => "tl_recover_steps",
+            Call::Step => "tl_step",
         }
     }
 
     /// The numbers the call can answer: those of "When a call is turned away" that concern it, and those of
-    /// document 02, requests 5 and 6.
+    /// document 02, requests 5, 6 and 9. After a refusal a step gives the same answer again.
     fn possible(self) -> &'static [u32] {
         match self {
             Call::Check | Call::Check09 => &[0, 1, 2, 3, 4, 6, 7, 8],
@@ -77,6 +104,13 @@ impl Call {
             Call::FdtCheck => &[0, 21],
             Call::FdtFind => &[0, 13, 21],
             Call::Relocate | Call::Convert09 => &[0, 1, 2, 3, 4, 5, 6, 7, 8, 12, 14],
+            Call::AddJournalled | Call::AddSteps => &[0, 1, 2, 3, 4, 5, 6, 7, 8, 9, 10, 14, 16],
+            Call::AddAlignedJournalled | Call::AddAlignedSteps => {
+                &[0, 1, 2, 3, 4, 5, 6, 7, 8, 9, 10, 11, 14, 16]
+            }
+            Call::VoidJournalled | Call::VoidSteps => &[0, 1, 2, 3, 4, 5, 6, 7, 8, 9, 13, 16],
+            Call::Recover | Call::RecoverSteps => &[0, 17],
+            Call::Step => &[0, 1, 2, 3, 4, 5, 6, 7, 8, 9, 10, 11, 13, 14, 16, 17],
         }
     }
 }
@@ -101,12 +135,12 @@ impl Tally {
     }
 
     pub fn table(&self) -> String {
-        let mut table = format!("{:<15}", "call");
+        let mut table = format!("{:<26}", "call");
         for number in NUMBERS {
             write!(table, "{number:>9}").unwrap();
         }
         for call in Call::ALL {
-            write!(table, "\n{:<15}", call.name()).unwrap();
+            write!(table, "\n{:<26}", call.name()).unwrap();
             for seen in self.0[call as usize] {
                 write!(table, "{seen:>9}").unwrap();
             }

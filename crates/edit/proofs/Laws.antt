@@ -36,7 +36,7 @@ use Rattle.plan.specs.declared.Plan.{Plan}
 use Rattle.plan.specs.declared.Planned.the-variants.{Go, Refused}
 use Rattle.plan.specs.Plan.{wholeVoid, voidHeader, voidSpan, stretchOf, withChecksum, outcomeOf, WellFormed, Decides}
 use Rattle.plan.proofs.Laws.{length-wholeVoid, headerSpan-le, no-header, some-header, after-sealed}
-use Rattle.edit.specs.Decide.{planInVoid, planAtEnd, planVoid, paddingFor, endOutcome}
+use Rattle.edit.specs.Decide.{planInVoid, planAtEnd, planVoid, paddingFor, endOutcome, plannedBy}
 
 -- ---- where the entries of an admitted list stand
 
@@ -73,36 +73,40 @@ module _ (a : List ℕ) (base : ℕ) (h : Header) (m : Admitted a base h) where
 
 -- ---- decisions
 
--- what a refusal comes to
-pub decides-refused : (a content : List ℕ) (o : Outcome) (r : Refusal) → o ≡ refused r → Decides a content o (Refused r)
+-- what a refusal comes to: no plan is asked for
+pub decides-refused : (a content : List ℕ) (o : Outcome) (r : Refusal) (q : Plan) → o ≡ refused r
+    → Decides a content o (Refused r) × (Refused r ≡ plannedBy a content o q)
 unfolding outcomeOf
-decides-refused a content o r h = record { comes = sym h; writable = tt }
+decides-refused a content o r q h = (record { comes = sym h; writable = tt }, rw h)
 
 -- the outcome that a plan stands for: the edited area with the checksum worked out afresh
 abbrev planned : List ℕ → List ℕ → Plan → Outcome
 planned a content p = done (p .value) (seal (edited a (p .alignment) (p .«used_size») (p .at) (stretchOf p content)))
 
--- a well-formed plan, with its checksum, decides on every outcome that it stands for
+-- a well-formed plan, with its checksum, decides on every outcome that it stands for, and is what such an edit has decided
 pub decides-plan : (a content : List ℕ) (base : ℕ) (h : Header) (p : Plan) (o : Outcome) → Admitted a base h → Bytes a
-    → WellFormed h (length a) (length content) p → planned a content p ≡ o → Decides a content o (Go (withChecksum a content p))
+    → WellFormed h (length a) (length content) p → planned a content p ≡ o
+    → Decides a content o (Go (withChecksum a content p)) × (Go (withChecksum a content p) ≡ plannedBy a content o p)
 unfolding outcomeOf withChecksum
 decides-plan a content base h p o m b w e =
     let v : WellFormed (headerOf a) (length a) (length content) p =
-    subst (λ (x : Header). WellFormed x (length a) (length content) p) (m .header) w in
-    record {
-      comes = ap (done (p .value)) (after-sealed p a content b (m .sound .summed) (used-most current a base (m .sound)) v) ∙ e;
-      writable = record {
-        low = v .low;
-        eights = v .eights;
-        old = v .old;
-        used = v .used;
-        inside = v .inside;
-        padding = v .padding;
-        tag = v .tag;
-        alignment = v .alignment;
-        small = v .small;
-      };
-    }
+    subst (λ (x : Header). WellFormed x (length a) (length content) p) (m .header) w in (
+      record {
+        comes = ap (done (p .value)) (after-sealed p a content b (m .sound .summed) (used-most current a base (m .sound)) v) ∙ e;
+        writable = record {
+          low = v .low;
+          eights = v .eights;
+          old = v .old;
+          used = v .used;
+          inside = v .inside;
+          padding = v .padding;
+          tag = v .tag;
+          alignment = v .alignment;
+          small = v .small;
+        };
+      },
+      rw (← e),
+    )
 
 -- what the checksum of a well-formed plan asks for
 pub asks : (a : List ℕ) (base : ℕ) (h : Header) (n : ℕ) (p : Plan) → Admitted a base h → WellFormed h (length a) n p

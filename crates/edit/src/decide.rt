@@ -22,6 +22,7 @@ ghost use Rattle.laws.proofs.Check.{Admitted};
 ghost use Rattle.walk.specs.Wanted.{sought};
 ghost use Rattle.plan.specs.Plan.{voidSpan, Decides};
 ghost use Rattle.edit.specs.Decide.{planInVoid, planAtEnd, planVoid, paddingFor, endOutcome, addPlace};
+ghost use Rattle.edit.specs.Decide.{plannedAtEnd, plannedPlace, plannedFor};
 
 // The entry in the place of the void e; what is left of the void follows as a void of its own.
 fn in_void(h: Header, e: Entry, tag: u32, n: usize) -> Plan
@@ -93,6 +94,7 @@ fn decide_end(
 ) -> Planned
     requires { ⌜ Admitted (now area) base h × (padding ≡ voidSpan padding) × (padding < 2 ^ 31) × (tag < 2 ^ 24) ⌝ }
     ensures { λ r. ⌜ Decides (now (area .entry)) (now («data» .entry)) (endOutcome (now (area .entry)) padding alignment tag (now («data» .entry))) r ⌝ }
+    ensures { λ r. ⌜ r ≡ plannedAtEnd h (now (area .entry)) padding alignment tag (now («data» .entry)) ⌝ }
 {
     let n = data.len();
     let room = h.total_size as usize - h.used_size as usize;
@@ -114,6 +116,7 @@ fn decide_place(
 ) -> Planned
     requires { ⌜ Admitted (now area) base h × (fit ≡ sought (firstFit (length (now «data»)) (entriesOf (now area)))) × (tag < 2 ^ 24) ⌝ }
     ensures { λ r. ⌜ Decides (now (area .entry)) (now («data» .entry)) (addPlace (now (area .entry)) tag (now («data» .entry)) «use_voids») r ⌝ }
+    ensures { λ r. ⌜ r ≡ plannedPlace (now (area .entry)) tag (now («data» .entry)) «use_voids» ⌝ }
 {
     if !use_voids {
         return decide_end(area, base, h, 0, h.alignment, tag, data);
@@ -125,8 +128,9 @@ fn decide_place(
 }
 
 // Add: checks 1 to 8, then 9, 10 and 14. The walk of the check remembers the first void that fits.
-pub(crate) fn decide_add(area: &[u8], base: u64, tag: u32, data: &[u8], use_voids: bool) -> Planned
+pub fn decide_add(area: &[u8], base: u64, tag: u32, data: &[u8], use_voids: bool) -> Planned
     ensures { λ r. ⌜ Decides (now (area .entry)) (now («data» .entry)) (run (toAdd tag (now («data» .entry)) «use_voids») (now (area .entry)) base) r ⌝ }
+    ensures { λ r. ⌜ r ≡ plannedFor (toAdd tag (now («data» .entry)) «use_voids») (now (area .entry)) base ⌝ }
 {
     let n = data.len();
     let surveyed = check::survey(
@@ -183,14 +187,9 @@ fn larger(alignment: u8, exponent: u32) -> u8
 }
 
 // Add aligned: checks 1 to 8, then 9, 10, 11 and 14.
-pub(crate) fn decide_add_aligned(
-    area: &[u8],
-    base: u64,
-    tag: u32,
-    data: &[u8],
-    exponent: u32,
-) -> Planned
+pub fn decide_add_aligned(area: &[u8], base: u64, tag: u32, data: &[u8], exponent: u32) -> Planned
     ensures { λ r. ⌜ Decides (now (area .entry)) (now («data» .entry)) (run (toAddAligned tag (now («data» .entry)) exponent) (now (area .entry)) base) r ⌝ }
+    ensures { λ r. ⌜ r ≡ plannedFor (toAddAligned tag (now («data» .entry)) exponent) (now (area .entry)) base ⌝ }
 {
     let surveyed = check::survey(true, area, base, Wanted::nothing());
     let Surveyed::Accepted(_, h, _) = surveyed else {
@@ -217,8 +216,9 @@ pub(crate) fn decide_add_aligned(
 }
 
 // Void: checks 1 to 8, then 9 and 13. The walk of the check remembers the entry.
-pub(crate) fn decide_void(area: &[u8], base: u64, tag: u32, n: u64) -> Planned
+pub fn decide_void(area: &[u8], base: u64, tag: u32, n: u64) -> Planned
     ensures { λ r. ⌜ Decides (now (area .entry)) [] (run (toVoid tag n) (now (area .entry)) base) r ⌝ }
+    ensures { λ r. ⌜ r ≡ plannedFor (toVoid tag n) (now (area .entry)) base ⌝ }
 {
     let surveyed = check::survey(true, area, base, Wanted { tag, least: 0, n });
     let Surveyed::Accepted(_, h, found) = surveyed else {

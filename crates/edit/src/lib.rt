@@ -1,3 +1,3 @@
 // Add, add aligned and void. An edit first decides, reading only, then what it has decided is carried out.
-mod decide;
+pub mod decide;
 pub mod edits;

@@ -1,6 +1,6 @@
 -- What a plan says: the bytes of its stretch, the area afterwards, and the outcome that it stands for.
 use mathlib.Core.Path.{_≡_}
-use Prim.Native.Nat.{ℕ, _+_, _-_, _*_, _%_, _≤_, _<_, _^_, max}
+use Prim.Native.Nat.{ℕ, _+_, _-_, _*_, _/_, _%_, _≤_, _<_, _^_, max}
 use mathlib.Core.Bool.{cond}
 use mathlib.Core.List.{List, [], _++_}
 use lib.ListN.{length, set, replicate}
@@ -84,14 +84,14 @@ refusalOfPlanned (Go p) = Area
 refusalOfPlanned (Refused r) = r
 
 -- a plan is well-formed for a list with the header h in len bytes, and n bytes of data: its stretch starts at a multiple of 8 behind the
--- header, among the used bytes or at their end, and lies inside the area; used_size reaches to its end; a padding void takes no byte
+-- header, among the used bytes or at their end, and lies inside the area's whole words of 8 bytes; used_size reaches to its end; a padding void takes no byte
 -- or 8 or more; numbers fit their fields
 pub record WellFormed (h : Header) (len n : ℕ) (p : Plan) : Type 0 where
   pub low : headerSize ≤ p .at
   pub eights : p .at % 8 ≡ 0
   pub old : p .at ≤ h .«used_size»
   pub used : p .«used_size» ≡ max (h .«used_size») (p .at + stretchLength p n)
-  pub inside : p .at + p .padding + entryHeaderSize + n + p .zeros + p .behind ≤ len
+  pub inside : p .at + p .padding + entryHeaderSize + n + p .zeros + p .behind ≤ len / 8 * 8
   pub padding : p .padding ≡ voidSpan (p .padding)
   pub tag : p .«tag_id» < 2 ^ 24
   pub alignment : p .alignment < 256

@@ -35,7 +35,7 @@ pub enum Planned {
 
 impl Planned {
     // Why nothing is to be done.
-    pub(crate) fn refusal(self) -> Refusal
+    pub fn refusal(self) -> Refusal
         ensures { λ r. ⌜ r ≡ refusalOfPlanned self ⌝ }
     {
         match self {

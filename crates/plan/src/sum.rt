@@ -32,7 +32,7 @@ fn xor_stretch(p: Plan, data: &[u8]) -> u8
 }
 
 // The bytes of the header of a void that takes n bytes, if there is one.
-fn header_span(n: usize) -> usize
+pub fn header_span(n: usize) -> usize
     ensures { λ r. ⌜ r ≡ headerSpan n ⌝ }
 {
     if n < 8 {

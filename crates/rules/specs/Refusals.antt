@@ -1,6 +1,6 @@
 -- Document 01, "When a call is turned away": the fourteen refusals, each with its number and exactly when it comes.
 -- 8 ENTRY is the walk's (Entries), 10 SHAPE the tag table's (Tags), 13 NONE and 14 ROOM are each operation's own.
--- Request 5's 18 to 20 stand in Certificate.
+-- Request 5's 18 to 20 stand in Certificate, request 9's 16 and 17 in the crates journal and steps.
 use Prim.Native.Nat.{ℕ, _+_}
 use mathlib.Core.Bool.{Bool, not, _&&_, _||_}
 use mathlib.Core.List.{List}

@@ -1,14 +1,17 @@
 // Runs the paper's examples A to N, and examples of edition 0.9, of the event log's length, of tidying, of the checksum's exclusive or, of
-// the test certificate, of the device tree, of alignments up to 21 and of bad entries, on real bytes and prints what the functions answer and
-// leave; the file stdout holds what the papers' rules give. No buffer is over 64 KiB, so that I's 65,537 bytes are left out.
+// the test certificate, of the device tree, of alignments up to 21, of bad entries and of the journal, on real bytes and prints what the
+// functions answer and leave; the file stdout holds what the papers' rules give. No buffer is over 64 KiB, so that I's 65,537 bytes are left out.
 // A line: the example, the call, the answer's numbers, of a reading its 64 bits, the place of a bad entry, which is 0 where there is none, and
 // the bytes: of a find the data, of create, an edit and a certificate the whole area or target, of two large areas the first 24 bytes; of the
-// exclusive or the start, and the results over 0, 1, 2 .. bytes from there.
+// exclusive or the start, and the results over 0, 1, 2 .. bytes from there; of a journalled edit, a step and a recovery the area and, behind a
+// stroke, the journal, and of a step whether it has ended.
 use rules::CheckAnswer;
 use rules::Done;
+use rules::DoneAnswer;
 use rules::FindAnswer;
 use rules::certificate::Certificate;
 use rules::certificate::Gate;
+use steps::Stepped;
 
 fn number(n: u32) {
     io::write_all(1, b" ");
@@ -1050,6 +1053,148 @@ fn bad_entries_elsewhere() {
     show_convert09(b"09 void of 3 convert", old, 0x1000, 0x2000);
 }
 
+// A journalled call's answer, the area and the journal.
+fn show_both(example: &[u8], a: DoneAnswer, area: &[u8], journal: &[u8]) {
+    io::write_all(1, example);
+    number(a.number);
+    number(a.value);
+    number(a.at);
+    show_bytes(area);
+    io::write_all(1, b" |");
+    show_bytes(journal);
+    io::write_all(1, b"\n");
+}
+
+// A list of 64 bytes with tag 1, aa bb cc.
+fn make_one(area: &mut [u8]) {
+    create::create(area, 0x1000, true);
+    edit::edits::add(area, 0x1000, 1, b"\xaa\xbb\xcc", false);
+}
+
+// Its entry voided: words 0, 24 and 32 change, so that four records are enough.
+fn journalled_void(example: &[u8], journal: &mut [u8]) {
+    let mut area = [0u8; 64];
+    make_one(&mut area);
+    let a = journalled::forms::void(&mut area, 0x1000, 1, 0, journal);
+    show_both(example, a, &area, journal);
+}
+
+// Tag 2 with 5a added behind it: words 0, 8, 40 and 48 change.
+fn journalled_add(example: &[u8], tag: u32, journal: &mut [u8]) {
+    let mut area = [0u8; 64];
+    make_one(&mut area);
+    let a = journalled::forms::add(&mut area, 0x1000, tag, b"\x5a", true, journal);
+    show_both(example, a, &area, journal);
+}
+
+// The same, aligned: to 32 it would stand behind a padding void of 16 bytes, and has no room.
+fn journalled_aligned(example: &[u8], exponent: u32, journal: &mut [u8]) {
+    let mut area = [0u8; 64];
+    make_one(&mut area);
+    let a = journalled::forms::add_aligned(&mut area, 0x1000, 2, b"\x5a", exponent, journal);
+    show_both(example, a, &area, journal);
+}
+
+fn journalled_edits() {
+    let mut exact = [0u8; 64];
+    put_part(&mut exact, 1, b"\xee");
+    journalled_void(b"void, four records", &mut exact);
+    journalled_void(b"void, four records and 15 bytes", &mut [0u8; 79]);
+    journalled_void(b"void, three records and 15 bytes", &mut [0u8; 63]);
+    journalled_void(b"void, no journal", &mut []);
+    let mut kind = [0u8; 96];
+    put_part(&mut kind, 80, b"\x01");
+    journalled_void(b"void, a kind behind", &mut kind);
+    journalled_add(b"add, five records", 2, &mut [0u8; 80]);
+    journalled_add(b"add, four records", 2, &mut [0u8; 64]);
+    journalled_add(b"add, tag 0, no journal", 0, &mut []);
+    journalled_aligned(b"add aligned to 8, five records", 3, &mut [0u8; 80]);
+    journalled_aligned(b"add aligned to 32, no journal", 5, &mut []);
+}
+
+// An area of 20 bytes, ff each, and a journal of two records, recovered.
+fn recovery(example: &[u8], first: &[u8], second: &[u8]) {
+    let mut area = [0xffu8; 20];
+    let mut journal = [0u8; 33];
+    put_part(&mut journal, 0, first);
+    put_part(&mut journal, 16, second);
+    let a = steps::whole::recover(&mut area, &mut journal);
+    show_both(example, a, &area, &journal);
+}
+
+fn recoveries() {
+    let word = b"\x01\0\0\0\x08\0\0\0\x11\x12\x13\x14\x15\x16\x17\x18";
+    let odd = b"\x01\0\0\0\x04\0\0\0\x11\x12\x13\x14\x15\x16\x17\x18";
+    let far = b"\x01\0\0\0\x10\0\0\0\x11\x12\x13\x14\x15\x16\x17\x18";
+    let last = b"\x01\0\0\0\xf8\xff\xff\xff\x11\x12\x13\x14\x15\x16\x17\x18";
+    recovery(b"recover, empty", b"", b"");
+    recovery(b"recover, word and commit", word, b"\x02");
+    recovery(b"recover, word and no commit", word, b"");
+    recovery(b"recover, commit and word", b"\x02", word);
+    recovery(b"recover, word and kind 3", word, b"\x03");
+    recovery(b"recover, commit and kind 3", b"\x02", b"\x03");
+    recovery(b"recover, odd offset", odd, b"\x02");
+    recovery(b"recover, odd offset, no commit", odd, b"");
+    recovery(b"recover, offset 16 of 20", far, b"\x02");
+    recovery(b"recover, offset 0xfffffff8", last, b"\x02");
+    let mut area = [0xffu8; 8];
+    let mut short = [0x03u8; 15];
+    let a = steps::whole::recover(&mut area, &mut short);
+    show_both(b"recover, no whole record", a, &area, &short);
+}
+
+fn show_step(example: &[u8], r: Stepped, area: &[u8], journal: &[u8]) {
+    let a = r.done;
+    io::write_all(1, example);
+    number(r.ended);
+    number(a.number);
+    number(a.value);
+    number(a.at);
+    show_bytes(area);
+    io::write_all(1, b" |");
+    show_bytes(journal);
+    io::write_all(1, b"\n");
+}
+
+// One step, shown.
+fn show_next(r: Stepped, area: &mut [u8], journal: &mut [u8]) -> Stepped {
+    let s = r.state;
+    let next = steps::advance::step(s, area, b"", journal);
+    show_step(b"step", next, area, journal);
+    next
+}
+
+// The void's first four bytes, then the power is cut, and the recovery: four kinds are cleared, and it has ended; a step more.
+fn stepped_void() {
+    let mut area = [0u8; 64];
+    let mut journal = [0u8; 64];
+    make_one(&mut area);
+    let r = journalled::starts::void(&area, 0x1000, 1, 0, &journal).report();
+    show_step(b"void steps", r, &area, &journal);
+    let a = show_next(r, &mut area, &mut journal);
+    let b = show_next(a, &mut area, &mut journal);
+    let c = show_next(b, &mut area, &mut journal);
+    show_next(c, &mut area, &mut journal);
+    let cut = steps::begin::recover_start(&area, &journal).report();
+    show_step(b"recover steps", cut, &area, &journal);
+    let d = show_next(cut, &mut area, &mut journal);
+    let e = show_next(d, &mut area, &mut journal);
+    let f = show_next(e, &mut area, &mut journal);
+    let end = show_next(f, &mut area, &mut journal);
+    show_next(end, &mut area, &mut journal);
+}
+
+// A step on a state that none left: 17, and again.
+fn foreign_state() {
+    let mut area = [0u8; 8];
+    let mut journal = [0u8; 16];
+    let mut s = steps::begin::recover_start(&area, &journal);
+    s.phase = 99;
+    let r = steps::advance::step(s, &mut area, b"", &mut journal);
+    show_step(b"phase 99", r, &area, &journal);
+    show_next(r, &mut area, &mut journal);
+}
+
 fn main() {
     examples_a_to_d();
     example_e(b"0123456789abcdefg");
@@ -1111,4 +1256,8 @@ fn main() {
     bad_entries();
     bad_entry_calls();
     bad_entries_elsewhere();
+    journalled_edits();
+    recoveries();
+    stepped_void();
+    foreign_state();
 }

@@ -32,7 +32,7 @@ returns : tie.Need-returns
 returns c =
     let s = c .before .before .before in
     let k = c .before .enum-told .given .1 in
-    decides-refused _ _ _ _ (simp (c .refusal .ensures, k, survey.refused _ _ _ _ _ (sym (s .survey .ensures) ∙ k)))
+    decides-refused _ _ _ _ _ (simp (c .refusal .ensures, k, survey.refused _ _ _ _ _ (sym (s .survey .ensures) ∙ k)))
 
 refuses-tag-add-requires : tie.Need-refuses-tag-add-requires
 refuses-tag-add-requires c κs = search needs
@@ -57,7 +57,7 @@ returns-2 : tie.Need-returns-2
 unfolding add
 returns-2 c =
     let t = c .before in
-    decides-refused _ _ _ _ (ran (t .before .before) ∙ simp (← t .refuses-tag-add .ensures, c .if1 .taken))
+    decides-refused _ _ _ _ _ (ran (t .before .before) ∙ simp (← t .refuses-tag-add .ensures, c .if1 .taken))
 
 refuses-shape-requires : tie.Need-refuses-shape-requires
 refuses-shape-requires c κs = search needs
@@ -70,7 +70,7 @@ tagged c = ran (c .before .before .before) ∙ simp (← c .before .refuses-tag-
 
 returns-3 : tie.Need-returns-3
 returns-3 c =
-    decides-refused _ _ _ _ (tagged (c .before .before) ∙ simp (← c .before .refuses-shape .ensures, c .if2 .taken))
+    decides-refused _ _ _ _ _ (tagged (c .before .before) ∙ simp (← c .before .refuses-shape .ensures, c .if2 .taken))
 
 -- nor is the length
 shaped : (c : tie.Else2) → let k = c .before .before .before .before .before in ruled k ≡ placed k

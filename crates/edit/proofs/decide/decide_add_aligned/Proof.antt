@@ -41,7 +41,7 @@ returns : tie.Need-returns
 returns c =
     let s = c .before .before .before in
     let k = c .before .enum-told .given .1 in
-    decides-refused _ _ _ _ (simp (c .refusal .ensures, k, survey.refused _ _ _ _ _ (sym (s .survey .ensures) ∙ k)))
+    decides-refused _ _ _ _ _ (simp (c .refusal .ensures, k, survey.refused _ _ _ _ _ (sym (s .survey .ensures) ∙ k)))
 
 refuses-tag-add-requires : tie.Need-refuses-tag-add-requires
 refuses-tag-add-requires c κs = search needs
@@ -65,7 +65,7 @@ returns-2 : tie.Need-returns-2
 unfolding addAligned
 returns-2 c =
     let t = c .before in
-    decides-refused _ _ _ _ (ran (t .before .before) ∙ simp (← t .refuses-tag-add .ensures, c .if1 .taken))
+    decides-refused _ _ _ _ _ (ran (t .before .before) ∙ simp (← t .refuses-tag-add .ensures, c .if1 .taken))
 
 refuses-shape-requires : tie.Need-refuses-shape-requires
 refuses-shape-requires c κs = search needs
@@ -78,7 +78,7 @@ tagged c = ran (c .before .before .before) ∙ simp (← c .before .refuses-tag-
 
 returns-3 : tie.Need-returns-3
 returns-3 c =
-    decides-refused _ _ _ _ (tagged (c .before .before) ∙ simp (← c .before .refuses-shape .ensures, c .if2 .taken))
+    decides-refused _ _ _ _ _ (tagged (c .before .before) ∙ simp (← c .before .refuses-shape .ensures, c .if2 .taken))
 
 refuses-align-requires : tie.Need-refuses-align-requires
 refuses-align-requires c κs = search needs
@@ -90,7 +90,7 @@ shaped c = tagged (c .before .before) ∙ simp (← c .before .refuses-shape .en
 
 returns-4 : tie.Need-returns-4
 returns-4 c =
-    decides-refused _ _ _ _ (shaped (c .before .before) ∙ simp (← c .before .refuses-align .ensures, c .if3 .taken))
+    decides-refused _ _ _ _ _ (shaped (c .before .before) ∙ simp (← c .before .refuses-align .ensures, c .if3 .taken))
 
 abbrev K : tie.Else3 → tie.After-surveyed
 K c = c .before .before .before .before .before .before .before
@@ -139,7 +139,7 @@ returns-5 c =
     let i = c .before .before .before in
     let a = S (K i) .args in
     let e = aligned-end (a .area .now) (a .base) (header i) (a .tag) (a .«data» .now) (a .exponent) (admitted i) (ranged i .0) in
-    rw (aligned i, e, ← c .before .before .padding-for .ensures, ← c .before .larger .ensures) (c .decide-end .ensures)
+    rw (aligned i, e, ← admitted i .header, ← c .before .before .padding-for .ensures, ← c .before .larger .ensures) (c .decide-end .ensures)
 
 pub decide-add-aligned-spec : {M : Type 1} → statement M
 decide-add-aligned-spec =

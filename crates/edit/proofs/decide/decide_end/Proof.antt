@@ -38,7 +38,7 @@ add-if1-3 c = search needs
 returns : tie.Need-returns
 returns c =
     let m = c .before .before .before .before .before .pre .0 in
-    decides-refused _ _ _ _ (no-room _ _ _ m _ _ _ _ (c .if1 .taken))
+    decides-refused _ _ _ _ _ (no-room _ _ _ m _ _ _ _ (c .if1 .taken))
 
 at-end-requires : tie.Need-at-end-requires
 at-end-requires c κs = search needs

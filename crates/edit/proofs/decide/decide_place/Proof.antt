@@ -22,8 +22,9 @@ decide-end-requires c κs = search needs
 returns : tie.Need-returns
 returns c =
     let k = c .before .before .before in
+    let m = k .before .pre .0 in
     let u : k .before .args .use-voids ≡ false = not-true _ (c .before .if1 .taken) in
-    rw (u, add-end _ _ _ (k .before .pre .0) (λ i. omega (arith, k .shared-slice-known .given i))) (c .decide-end .ensures)
+    rw (u, add-end _ _ _ m (λ i. omega (arith, k .shared-slice-known .given i)), ← m .header) (c .decide-end .ensures)
 
 enum-known-fit : tie.Need-enum-known-fit
 enum-known-fit c = search needs
@@ -38,9 +39,10 @@ returns-2 : tie.Need-returns-2
 returns-2 c =
     let i = c .before .before .before in
     let k = i .before .before in
+    let m = k .before .pre .0 in
     let u : k .before .args .use-voids ≡ true = not-false _ (i .if1 .left) in
     let n = sought-nothing (firstFit _ _) (sym (k .before .pre .1) ∙ c .before .enum-told .given .1) in
-    rw (u, n, add-end _ _ _ (k .before .pre .0) (λ i. omega (arith, k .shared-slice-known .given i))) (c .decide-end2 .ensures)
+    rw (u, n, add-end _ _ _ m (λ i. omega (arith, k .shared-slice-known .given i)), ← m .header) (c .decide-end2 .ensures)
 
 abbrev S : tie.After-fit → tie.Start
 S c = c .before .before .before .before .before
@@ -69,7 +71,7 @@ returns-3 c =
     let m = k .before .pre .0 in
     let b : Bytes (k .before .args .area .now) = λ i. omega (arith, k .shared-slice-known .given i) in
     let u : k .before .args .use-voids ≡ true = not-false _ (i .if1 .left) in
-    rw (u, fits f, c .with-checksum .ensures, c .before .in-void .ensures)
+    rw (u, fits f, ← m .header, c .with-checksum .ensures, c .before .in-void .ensures)
     (decides-plan _ _ _ _ _ _ m b (formed f) (in-void-comes _ _ _ m b _ _ _))
 
 pub decide-place-spec : {M : Type 1} → statement M

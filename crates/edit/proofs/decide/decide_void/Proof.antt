@@ -38,7 +38,7 @@ returns : tie.Need-returns
 returns c =
     let s = c .before .before .before in
     let k = c .before .enum-told .given .1 in
-    decides-refused _ _ _ _ (simp (c .refusal .ensures, k, survey.refused _ _ _ _ _ (sym (s .survey .ensures) ∙ k)))
+    decides-refused _ _ _ _ _ (simp (c .refusal .ensures, k, survey.refused _ _ _ _ _ (sym (s .survey .ensures) ∙ k)))
 
 refuses-tag-requires : tie.Need-refuses-tag-requires
 refuses-tag-requires c κs = search needs
@@ -59,7 +59,7 @@ returns-2 : tie.Need-returns-2
 unfolding void
 returns-2 c =
     let t = c .before in
-    decides-refused _ _ _ _ (simp (told (t .before .before) .checked, ← t .refuses-tag .ensures, c .if1 .taken))
+    decides-refused _ _ _ _ _ (simp (told (t .before .before) .checked, ← t .refuses-tag .ensures, c .if1 .taken))
 
 enum-known-found : tie.Need-enum-known-found
 enum-known-found c = search needs
@@ -81,7 +81,7 @@ returns-3 : tie.Need-returns-3
 returns-3 c =
     let t = c .before .before in
     let n = sought-nothing (occurrence _ _ _) (sym (met t) ∙ c .enum-told2 .given .1) in
-    decides-refused _ _ _ _ (tagged t ∙ simp n)
+    decides-refused _ _ _ _ _ (tagged t ∙ simp n)
 
 abbrev T : tie.After-found → tie.Else1
 T c = c .before .before
@@ -119,7 +119,7 @@ returns-4 c =
     let f = v .before .before in
     let m = admitted f in
     let b : Bytes (S (K f) .args .area .now) = λ i. omega (arith, K f .before .before .before .shared-slice-known .given i) in
-    rw (tagged (T f), found f, c .with-checksum .ensures, v .void-plan .ensures)
+    rw (tagged (T f), found f, ← m .header, c .with-checksum .ensures, v .void-plan .ensures)
     (decides-plan _ [] _ _ _ _ m b (formed f) (void-comes _ _ _ m b (f .found .given .0 .0)))
 
 pub decide-void-spec : {M : Type 1} → statement M

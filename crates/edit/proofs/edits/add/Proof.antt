@@ -15,7 +15,7 @@ same-length c = search needs
 returns : tie.Need-returns
 returns c =
     let k = c .before .before in
-    rw (← k .before .before .decide-add .ensures .comes) (k .carry-out .ensures)
+    rw (← k .before .before .decide-add .ensures .0 .comes) (k .carry-out .ensures)
 
 pub add-spec : {M : Type 1} → statement M
 add-spec = tie.close (tie.spec decide-add-requires carry-out-requires same-length returns)

@@ -15,7 +15,7 @@ same-length c = search needs
 returns : tie.Need-returns
 returns c =
     let k = c .before .before in
-    rw (← k .before .before .decide-add-aligned .ensures .comes) (k .carry-out .ensures)
+    rw (← k .before .before .decide-add-aligned .ensures .0 .comes) (k .carry-out .ensures)
 
 pub add-aligned-spec : {M : Type 1} → statement M
 add-aligned-spec =

@@ -18,7 +18,7 @@ same-length c = search needs
 returns : tie.Need-returns
 returns c =
     let k = c .before .before in
-    rw (← k .before .before .before .decide-void .ensures .comes) (k .carry-out .ensures)
+    rw (← k .before .before .before .decide-void .ensures .0 .comes) (k .carry-out .ensures)
 
 pub void-spec : {M : Type 1} → statement M
 void-spec =
