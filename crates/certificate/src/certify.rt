@@ -1,8 +1,8 @@
 // The certificate of a list: refusal 18 after those of the check, then what its data says.
 ghost use Rattle.std.specs.Prelude.{◌≡◌, ◌+◌, ◌≤◌, [], ◌∷◌, length};
-ghost use Rattle.rules.specs.Entries.{dataOffset};
-ghost use Rattle.rules.specs.Tags.{certificateTag};
-ghost use Rattle.rules.specs.Certificate.{certifiedIn, certify as certifyRule};
+ghost use Rattle.rules.specs.Entries.{data_offset};
+ghost use Rattle.rules.specs.Tags.{certificate_tag};
+ghost use Rattle.rules.specs.Certificate.{certified_in, certify as certify_rule};
 
 use crate::contents;
 use rules::Entry;
@@ -13,7 +13,7 @@ use walk::wanted::{Sought, Wanted};
 
 // Occurrence n of the certificate's tag, with any number of bytes of data.
 fn wanted(n: u64) -> Wanted
-    ensures { result ≡ record { tag = certificateTag; least = 0; n = n } }
+    ensures { result ≡ record { tag = certificate_tag; least = 0; n = n } }
 {
     Wanted {
         tag: Certificate::TAG,
@@ -24,8 +24,8 @@ fn wanted(n: u64) -> Wanted
 
 // What the one entry with the certificate's tag comes to: 18 for its length, then what its data says.
 fn certify_entry(area: &[u8], e: Entry, serial: u64, test: u64) -> Certified
-    requires { dataOffset e + e.data_size ≤ length area.now }
-    ensures { result ≡ certifiedIn area.now serial test (e ∷ []) }
+    requires { data_offset e + e.data_size ≤ length area.now }
+    ensures { result ≡ certified_in area.now serial test (e ∷ []) }
 {
     if e.data_size as usize != Certificate::SIZE {
         return Certified::NotOne;
@@ -38,7 +38,7 @@ fn certify_entry(area: &[u8], e: Entry, serial: u64, test: u64) -> Certified
 // The one certificate of a list, if it is the one asked for: its reading, and whether it passes. There is exactly one where there is an
 // occurrence 0 of its tag and no occurrence 1.
 pub fn certify(area: &[u8], base: u64, serial: u64, test: u64) -> Certified
-    ensures { result ≡ certifyRule area.now base serial test }
+    ensures { result ≡ certify_rule area.now base serial test }
 {
     let surveyed = check::survey(false, area, base, wanted(0));
     let Surveyed::Accepted(_, h, first) = surveyed else {

@@ -2,25 +2,25 @@
 ghost use Rattle.std.specs.Prelude.{◌≡◌, ◌≤◌, length, ltb};
 ghost use Rattle.std.specs.Float.{binary64};
 ghost use Rattle.std.specs.Float.Ieee.{nan_bits};
-ghost use Rattle.rules.specs.Tags.{certificateSize};
+ghost use Rattle.rules.specs.Tags.{certificate_size};
 ghost use Rattle.rules.specs.Certificate.{
-  certificateOf,
-  float as floatRule,
-  gaugeReading,
-  calibrationOf,
+  certificate_of,
+  float as float_rule,
+  gauge_reading,
+  calibration_of,
   reading_of,
-  gateOf,
-  refusesIdentity,
-  unknownKind,
-  maxCounts,
-  notFinite,
-  notAboveZero,
-  unusedNotZero,
-  lowExceedsHigh,
-  refusesContents,
-  passes as passesRule,
+  gate_of,
+  refuses_identity,
+  unknown_kind,
+  max_counts,
+  not_finite,
+  not_above_zero,
+  unused_not_zero,
+  low_exceeds_high,
+  refuses_contents,
+  passes as passes_rule,
   judged,
-  certified as certifiedRule,
+  certified as certified_rule,
 };
 
 use rules::certificate::{Calibration, Certificate, Certified, Gate};
@@ -30,8 +30,8 @@ const INFINITY: u64 = 0x7ff0_0000_0000_0000;
 
 // The fields of the certificate that d starts with.
 fn read_certificate(d: &[u8]) -> Certificate
-    requires { certificateSize ≤ length d.now }
-    ensures { result ≡ certificateOf d.now }
+    requires { certificate_size ≤ length d.now }
+    ensures { result ≡ certificate_of d.now }
 {
     Certificate {
         serial: wire::read8(d, 0),
@@ -54,7 +54,7 @@ fn is_no_number(bits: u64) -> bool
 
 // The float of a pattern. f64::from_bits is not defined at the patterns of no number; there is one such value, which 0.0 / 0.0 makes.
 fn float(bits: u64) -> f64
-    ensures { result ≡ floatRule bits }
+    ensures { result ≡ float_rule bits }
 {
     if is_no_number(bits) {
         return 0.0 / 0.0;
@@ -64,7 +64,7 @@ fn float(bits: u64) -> f64
 
 // The gauge's gain and offset.
 fn calibration(c: Certificate) -> Calibration
-    ensures { result ≡ calibrationOf c }
+    ensures { result ≡ calibration_of c }
 {
     Calibration {
         gain: float(c.gain),
@@ -74,7 +74,7 @@ fn calibration(c: Certificate) -> Calibration
 
 // The product, rounded, and then the sum, rounded.
 fn reading(k: Calibration, counts: u32) -> f64
-    ensures { result ≡ gaugeReading k counts }
+    ensures { result ≡ gauge_reading k counts }
 {
     k.gain * (counts as f64) + k.offset
 }
@@ -88,7 +88,7 @@ fn reading_of(c: Certificate) -> f64
 
 // The gate of a certificate whose kind is known.
 fn gate_of(c: Certificate) -> Gate
-    ensures { result ≡ gateOf c }
+    ensures { result ≡ gate_of c }
 {
     let low = float(c.low);
     let high = float(c.high);
@@ -103,28 +103,28 @@ fn gate_of(c: Certificate) -> Gate
 
 // Refusal 19.
 fn refuses_identity(c: Certificate, serial: u64, test: u64) -> bool
-    ensures { result ≡ refusesIdentity serial test c }
+    ensures { result ≡ refuses_identity serial test c }
 {
     !((c.serial == serial) & (c.test == test))
 }
 
 // The kind is not one of the three.
 fn unknown_kind(kind: u32) -> bool
-    ensures { result ≡ unknownKind kind }
+    ensures { result ≡ unknown_kind kind }
 {
     !((kind == Gate::BAND) | (kind == Gate::CEILING) | (kind == Gate::FLOOR))
 }
 
 // Counts exceed 2^24.
 fn counts_exceed(counts: u32) -> bool
-    ensures { result ≡ ltb maxCounts counts }
+    ensures { result ≡ ltb max_counts counts }
 {
     Certificate::MAX_COUNTS < counts
 }
 
 // Infinite or no number. Neither lies strictly between the infinities.
 fn not_finite(x: f64) -> bool
-    ensures { result ≡ notFinite x }
+    ensures { result ≡ not_finite x }
 {
     let infinity = f64::from_bits(INFINITY);
     !((-infinity < x) & (x < infinity))
@@ -132,28 +132,28 @@ fn not_finite(x: f64) -> bool
 
 // Not above zero. Neither +0.0 nor -0.0 is.
 fn not_above_zero(x: f64) -> bool
-    ensures { result ≡ notAboveZero x }
+    ensures { result ≡ not_above_zero x }
 {
     !(0.0 < x)
 }
 
 // A limit that the gate does not use is not eight zero bytes.
 fn unused_not_zero(c: Certificate) -> bool
-    ensures { result ≡ unusedNotZero c }
+    ensures { result ≡ unused_not_zero c }
 {
     ((c.kind == Gate::CEILING) & (c.low != 0)) | ((c.kind == Gate::FLOOR) & (c.high != 0))
 }
 
 // A band's low exceeds its high.
 fn low_exceeds_high(c: Certificate) -> bool
-    ensures { result ≡ lowExceedsHigh c }
+    ensures { result ≡ low_exceeds_high c }
 {
     (c.kind == Gate::BAND) & (float(c.high) < float(c.low))
 }
 
 // Refusal 20.
 fn refuses_contents(c: Certificate) -> bool
-    ensures { result ≡ refusesContents c }
+    ensures { result ≡ refuses_contents c }
 {
     unknown_kind(c.kind)
         | counts_exceed(c.counts)
@@ -169,7 +169,7 @@ fn refuses_contents(c: Certificate) -> bool
 
 // Pass or fail, limits included in the pass.
 fn passes(g: Gate, x: f64) -> bool
-    ensures { result ≡ passesRule g x }
+    ensures { result ≡ passes_rule g x }
 {
     match g {
         Gate::Band { low, high } => (low <= x) & (x <= high),
@@ -194,8 +194,8 @@ fn judge(c: Certificate) -> Certified
 
 // Refusals 19 and 20 of the certificate that d starts with, or the reading with pass or fail.
 pub(crate) fn certified(d: &[u8], serial: u64, test: u64) -> Certified
-    requires { certificateSize ≤ length d.now }
-    ensures { result ≡ certifiedRule serial test (certificateOf d.now) }
+    requires { certificate_size ≤ length d.now }
+    ensures { result ≡ certified_rule serial test (certificate_of d.now) }
 {
     let c = read_certificate(d);
     if refuses_identity(c, serial, test) {

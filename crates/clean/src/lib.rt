@@ -1,9 +1,9 @@
 // Clean lists: the test for leftovers, and the admission of a list to an edit, which is the survey and then refusal 15. Nothing here writes.
 ghost use Rattle.std.specs.Prelude.{◌≡◌, map, ◌<◌, ◌^◌};
-ghost use Rattle.rules.specs.Entries.{entriesOf};
-ghost use Rattle.rules.specs.Leftovers.{leftover, zeroIn, clean};
+ghost use Rattle.rules.specs.Entries.{entries_of};
+ghost use Rattle.rules.specs.Leftovers.{leftover, zero_in, clean};
 ghost use Rattle.laws.proofs.Check.{Admitted};
-ghost use Rattle.clean.specs.Admission.{admittedOf};
+ghost use Rattle.clean.specs.Admission.{admitted_of};
 
 use rules::{Entry, Header, Refusal};
 use walk::check::Surveyed;
@@ -25,7 +25,7 @@ pub fn leftover_from(e: Entry) -> usize
 // One walk over the entries of an admitted list: none of them has leftovers.
 fn entries_clean(a: &[u8], base: u64, h: Header) -> bool
     requires { Admitted a.now base h }
-    ensures { result ≡ zeroIn a.now (map leftover (entriesOf a.now)) }
+    ensures { result ≡ zero_in a.now (map leftover (entries_of a.now)) }
 {
     let used = h.used_size as usize;
     let mut at = Header::SIZE as usize;
@@ -57,7 +57,7 @@ fn is_clean(a: &[u8], base: u64, h: Header) -> bool
 
 // The admission to an edit of a clean list: checks 1 to 8, then 15; with the header, and the wanted entry.
 pub fn admit(area: &[u8], base: u64, w: Wanted) -> Surveyed
-    ensures { result ≡ admittedOf area.now base w }
+    ensures { result ≡ admitted_of area.now base w }
 {
     let surveyed = check::survey(true, area, base, w);
     let Surveyed::Accepted(_, h, _) = surveyed else {

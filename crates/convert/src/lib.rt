@@ -1,7 +1,7 @@
 // Convert: a list of edition 0.9, into another area as a current list with checksums on.
 ghost use Rattle.std.specs.Prelude.{◌≡◌, ◌+◌, ◌≤◌, ◌<◌, ◌^◌, length};
-ghost use Rattle.rules.specs.Outcome.{answer, bytesAfter};
-ghost use Rattle.rules.specs.Edition09.{edition09, growth, grownHeader, convertedBytes, convert as convertRule};
+ghost use Rattle.rules.specs.Outcome.{answer, bytes_after};
+ghost use Rattle.rules.specs.Edition09.{edition09, growth, grown_header, converted_bytes, convert as convert_rule};
 ghost use Rattle.laws.proofs.Check.{AdmittedIn};
 
 use destination::Place;
@@ -14,7 +14,7 @@ use walk::wanted::Wanted;
 // The header that create writes, with the old alignment and a used size that counts the longer header, for so many bytes of room.
 fn grown_header(h: Header, room: usize) -> Header
     requires { (h.used_size + growth < 2 ^ 32) × (room < 2 ^ 32) }
-    ensures { result ≡ grownHeader h room }
+    ensures { result ≡ grown_header h room }
 {
     let mut new = Header::fresh((room / 8 * 8) as u32, true);
     new.alignment = h.alignment;
@@ -25,7 +25,7 @@ fn grown_header(h: Header, room: usize) -> Header
 // The target's bytes: zeros, the new header with its checksum, the entries without their leftovers, zeros.
 fn write_target(area: &[u8], base: u64, h: Header, target: &mut [u8], shift: usize)
     requires { AdmittedIn edition09 area.now base h × (shift + (h.used_size + growth) ≤ length target.old) × (length target.old < 2 ^ 32) }
-    ensures { target.new ≡ convertedBytes area.now shift (length target.old) }
+    ensures { target.new ≡ converted_bytes area.now shift (length target.old) }
 {
     let old_size = Format::SIZE_09 as usize;
     let size = Header::SIZE as usize;
@@ -42,8 +42,8 @@ fn write_target(area: &[u8], base: u64, h: Header, target: &mut [u8], shift: usi
 
 // Converts the list into the target. Answers the shift: where in the target the list starts.
 pub fn convert(area: &[u8], base: u64, target: &mut [u8], target_base: u64) -> Done
-    ensures value { result ≡ answer (convertRule area.now base target.old target_base) }
-    ensures target_after { target.new ≡ bytesAfter target.old (convertRule area.now base target.old target_base) }
+    ensures value { result ≡ answer (convert_rule area.now base target.old target_base) }
+    ensures target_after { target.new ≡ bytes_after target.old (convert_rule area.now base target.old target_base) }
 {
     let surveyed = check::survey_of(Format::Edition09, true, area, base, Wanted::nothing());
     let Surveyed::Accepted(_, h, _) = surveyed else {

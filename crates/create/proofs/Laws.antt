@@ -8,42 +8,42 @@ use mathlib.Core.List.{List, ◌++◌, append_assoc}
 use lib.ListN.{length, take, drop, set, replicate, length-append, length-replicate}
 use lib.Seq.{take_at, set-get_or}
 use Rattle.wire.specs.Bytes.{le_bytes, xor, splice}
-use Rattle.wire.proofs.Splice.{splice-append, splice-snoc, splice_all}
-use Rattle.wire.proofs.Field.{length-leBytes}
+use Rattle.wire.proofs.Splice.{splice-append, splice_snoc, splice_all}
+use Rattle.wire.proofs.Field.{length-le_bytes}
 use Rattle.rules.specs.declared.Header.{Header}
 use Rattle.rules.specs.Area.{down8}
-use Rattle.rules.specs.Header.{headerBytes, freshHeader}
+use Rattle.rules.specs.Header.{header_bytes, fresh_header}
 use Rattle.rules.specs.Checksum.{seal}
-use Rattle.rules.specs.Create.{freshList}
-use Rattle.laws.proofs.FreshList.{length-headerBytes, fresh-created, unsealed}
+use Rattle.rules.specs.Create.{fresh_list}
+use Rattle.laws.proofs.FreshList.{length-header_bytes, fresh_created, unsealed}
 
 -- bytes written behind the first i of them
 next : (a p q : List ℕ) (i : ℕ) → length p ≡ i → splice (splice a 0 p) i q ≡ splice a 0 (p ++ q)
 next a p q i e = rw (← e, ← zero-add (length p)) (splice-append a 0 p q (omega arith))
 
 -- one byte stored behind the first i of them
-next-byte : (a p : List ℕ) (i v : ℕ) → length p ≡ i → i < length a → v < 256 → set (splice a 0 p) i v ≡ splice a 0 (p ++ le_bytes 1 v)
+next_byte : (a p : List ℕ) (i v : ℕ) → length p ≡ i → i < length a → v < 256 → set (splice a 0 p) i v ≡ splice a 0 (p ++ le_bytes 1 v)
 unfolding le_bytes
-next-byte a p i v e h b =
+next_byte a p i v e h b =
     let m : v % 256 ≡ v = omega arith in
-    rw (m, ← zero-add i) (splice-snoc a 0 p v i e (omega arith))
+    rw (m, ← zero-add i) (splice_snoc a 0 p v i e (omega arith))
 
 -- a header's first eight bytes as they are written, and then the others
-abbrev firstFields : List ℕ → Header → List ℕ
-firstFields a h =
+abbrev first_fields : List ℕ → Header → List ℕ
+first_fields a h =
     set (set (set (set (splice a 0 (le_bytes 4 h.signature)) 4 h.checksum) 5 h.version) 6 h.hdr_size) 7 h.alignment
 
-abbrev pub allFields : List ℕ → Header → List ℕ
-allFields a h =
+abbrev pub all_fields : List ℕ → Header → List ℕ
+all_fields a h =
     splice
-    (splice (splice (splice (firstFields a h) 8 (le_bytes 4 h.used_size)) 12 (le_bytes 4 h.total_size)) 16 (le_bytes 4 h.flags))
+    (splice (splice (splice (first_fields a h) 8 (le_bytes 4 h.used_size)) 12 (le_bytes 4 h.total_size)) 16 (le_bytes 4 h.flags))
     20
     (le_bytes 4 h.reserved)
 
 -- the fields of a header, one behind the other
 pub fields : (a : List ℕ) (h : Header) → 24 ≤ length a → h.checksum < 256 → h.version < 256 → h.hdr_size < 256 → h.alignment < 256
-    → allFields a h ≡ splice a 0 (headerBytes h)
-unfolding headerBytes
+    → all_fields a h ≡ splice a 0 (header_bytes h)
+unfolding header_bytes
 fields a h l c v s m =
     let p₄ : List ℕ = le_bytes 4 h.signature in
     let p₅ : List ℕ = p₄ ++ le_bytes 1 h.checksum in
@@ -54,14 +54,14 @@ fields a h l c v s m =
     let p₁₆ : List ℕ = p₁₂ ++ le_bytes 4 h.total_size in
     let p₂₀ : List ℕ = p₁₆ ++ le_bytes 4 h.flags in
     rw (
-      next-byte a p₄ 4 h.checksum (length-leBytes 4 h.signature) (omega arith) c,
-      next-byte a p₅ 5 h.version (simp (length-append, length-leBytes)) (omega arith) v,
-      next-byte a p₆ 6 h.hdr_size (simp (length-append, length-leBytes)) (omega arith) s,
-      next-byte a p₇ 7 h.alignment (simp (length-append, length-leBytes)) (omega arith) m,
-      next a p₈ (le_bytes 4 h.used_size) 8 (simp (length-append, length-leBytes)),
-      next a p₁₂ (le_bytes 4 h.total_size) 12 (simp (length-append, length-leBytes)),
-      next a p₁₆ (le_bytes 4 h.flags) 16 (simp (length-append, length-leBytes)),
-      next a p₂₀ (le_bytes 4 h.reserved) 20 (simp (length-append, length-leBytes)),
+      next_byte a p₄ 4 h.checksum (length-le_bytes 4 h.signature) (omega arith) c,
+      next_byte a p₅ 5 h.version (simp (length-append, length-le_bytes)) (omega arith) v,
+      next_byte a p₆ 6 h.hdr_size (simp (length-append, length-le_bytes)) (omega arith) s,
+      next_byte a p₇ 7 h.alignment (simp (length-append, length-le_bytes)) (omega arith) m,
+      next a p₈ (le_bytes 4 h.used_size) 8 (simp (length-append, length-le_bytes)),
+      next a p₁₂ (le_bytes 4 h.total_size) 12 (simp (length-append, length-le_bytes)),
+      next a p₁₆ (le_bytes 4 h.flags) 16 (simp (length-append, length-le_bytes)),
+      next a p₂₀ (le_bytes 4 h.reserved) 20 (simp (length-append, length-le_bytes)),
     )
     (simp append_assoc)
 
@@ -74,16 +74,16 @@ filled a h e l =
     next a h z 24 e ∙ splice_all a (h ++ z) f
 
 -- with has_checksum byte 4 becomes the exclusive or of the header
-pub fresh-summed : (len : ℕ) (has : Bool) → has ≡ true → set (unsealed len has) 4 (xor (take 24 (drop 0 (unsealed len has)))) ≡ freshList len has
-unfolding freshList seal
-fresh-summed len has e =
-    let h : List ℕ = headerBytes (freshHeader (down8 len) has) in
+pub fresh_summed : (len : ℕ) (has : Bool) → has ≡ true → set (unsealed len has) 4 (xor (take 24 (drop 0 (unsealed len has)))) ≡ fresh_list len has
+unfolding fresh_list seal
+fresh_summed len has e =
+    let h : List ℕ = header_bytes (fresh_header (down8 len) has) in
     let z : List ℕ = replicate (len - 24) 0 in
-    ap (set (h ++ z) 4) (ap xor (take_at h z 24 (length-headerBytes _)) ∙ sym (fresh-created (down8 len) (len - 24) has ∙ rw e))
+    ap (set (h ++ z) 4) (ap xor (take_at h z 24 (length-header_bytes _)) ∙ sym (fresh_created (down8 len) (len - 24) has ∙ rw e))
 
 -- without it byte 4 stays 0
-pub fresh-unsummed : (len : ℕ) (has : Bool) → has ≡ false → unsealed len has ≡ freshList len has
-unfolding freshList seal headerBytes freshHeader le_bytes
-fresh-unsummed len has e =
+pub fresh_unsummed : (len : ℕ) (has : Bool) → has ≡ false → unsealed len has ≡ fresh_list len has
+unfolding fresh_list seal header_bytes fresh_header le_bytes
+fresh_unsummed len has e =
     let h : List ℕ = unsealed len has in
-    sym (ap (set h 4) (fresh-created (down8 len) (len - 24) has ∙ rw e) ∙ set-get_or h 4 0)
+    sym (ap (set h 4) (fresh_created (down8 len) (len - 24) has ∙ rw e) ∙ set-get_or h 4 0)

@@ -1,17 +1,17 @@
 // Create: a new list without entries. Its writing of a header serves the conversion too.
 ghost use Rattle.std.specs.Prelude.{◌≡◌, ◌≤◌, length};
 ghost use Rattle.wire.specs.Bytes.{splice};
-ghost use Rattle.rules.specs.Header.{headerSize, headerBytes};
-ghost use Rattle.rules.specs.Outcome.{answer, bytesAfter};
-ghost use Rattle.rules.specs.Create.{create as createRule};
+ghost use Rattle.rules.specs.Header.{header_size, header_bytes};
+ghost use Rattle.rules.specs.Outcome.{answer, bytes_after};
+ghost use Rattle.rules.specs.Create.{create as create_rule};
 
 use rules::{Done, Header, Refusal};
 use walk::header;
 
 // The header's bytes, field after field.
 pub fn write_header(a: &mut [u8], h: Header)
-    requires { headerSize ≤ length a.old }
-    ensures { a.new ≡ splice a.old 0 (headerBytes h) }
+    requires { header_size ≤ length a.old }
+    ensures { a.new ≡ splice a.old 0 (header_bytes h) }
 {
     wire::write4(a, 0, h.signature);
     a[4] = h.checksum;
@@ -26,8 +26,8 @@ pub fn write_header(a: &mut [u8], h: Header)
 
 // Writes a new list: the header, and zero in every further byte. Answers the total.
 pub fn create(area: &mut [u8], base: u64, has_checksum: bool) -> Done
-    ensures value { result ≡ answer (createRule area.old base has_checksum) }
-    ensures area_after { area.new ≡ bytesAfter area.old (createRule area.old base has_checksum) }
+    ensures value { result ≡ answer (create_rule area.old base has_checksum) }
+    ensures area_after { area.new ≡ bytes_after area.old (create_rule area.old base has_checksum) }
 {
     let len = area.len();
     if !header::usable(base, len) {

@@ -7,15 +7,15 @@ use Rattle.rules.specs.declared.Refusal.{Refusal}
 use Rattle.rules.specs.declared.Refusal.TheVariants as refusal
 use Rattle.rules.specs.declared.DoneAnswer.{DoneAnswer}
 use Rattle.rules.specs.Refusals.{number_of}
-use Rattle.rules.specs.Outcome.{Outcome, refused, done, answer, bytesAfter, doneAnswer}
+use Rattle.rules.specs.Outcome.{Outcome, refused, done, answer, bytes_after, done_answer}
 use Rattle.rules.specs.Edit.{Edit, run, destination, lent}
 use Rattle.rules.specs.Demand3.{AcceptedV1, Keeps, Promised}
 use Rattle.demand3.proofs.InPlace.{ran}
 use Rattle.demand3.proofs.Demand3.{demand3}
 
 -- an edit that is done was admitted, so its list is accepted and of version 1
-pub done-listed : (e : Edit) (a : List ℕ) (base value : ℕ) (bytes : List ℕ) → run e a base ≡ done value bytes → AcceptedV1 a base
-done-listed e a base value bytes h = (ran e a base value bytes h).listed
+pub done_listed : (e : Edit) (a : List ℕ) (base value : ℕ) (bytes : List ℕ) → run e a base ≡ done value bytes → AcceptedV1 a base
+done_listed e a base value bytes h = (ran e a base value bytes h).listed
 
 -- no refusal has the number 0
 numbered : (r : Refusal) → 0 < number_of r
@@ -36,20 +36,20 @@ numbered refusal.Room = omega arith
 numbered refusal.Dirty = omega arith
 
 -- a call that answers the number 0 of an outcome, and leaves its bytes, was done with this answer and these bytes
-pub answered-done : (before : List ℕ) (o : Outcome) (r : DoneAnswer) (bytes : List ℕ) → r ≡ doneAnswer (answer o) → bytes ≡ bytesAfter before o
+pub answered-done : (before : List ℕ) (o : Outcome) (r : DoneAnswer) (bytes : List ℕ) → r ≡ done_answer (answer o) → bytes ≡ bytes_after before o
     → r.number ≡ 0 → o ≡ done r.value bytes
 answered-done before (refused x) r bytes p q zero =
     let n : r.number ≡ number_of x = ap (λ (d : DoneAnswer). d.number) p in
     absurd (omega (arith, numbered x))
 answered-done before (done v b) r bytes p q zero = let n : r.value ≡ v = ap (λ (d : DoneAnswer). d.value) p in rw (n, q)
 
-module _ (e : Edit) (a : List ℕ) (base : ℕ) (r : DoneAnswer) (bytes : List ℕ) (p : r ≡ doneAnswer (answer (run e a base)))
-    (q : bytes ≡ bytesAfter (lent (destination e) a) (run e a base)) where
+module _ (e : Edit) (a : List ℕ) (base : ℕ) (r : DoneAnswer) (bytes : List ℕ) (p : r ≡ done_answer (answer (run e a base)))
+    (q : bytes ≡ bytes_after (lent (destination e) a) (run e a base)) where
   -- what the answer and the bytes of an edit keep
   pub keeps : Keeps e a base r bytes
   keeps zero =
       let h = answered-done (lent (destination e) a) (run e a base) r bytes p q zero in
-      demand3 e a base r.value bytes (done-listed e a base r.value bytes h) h
+      demand3 e a base r.value bytes (done_listed e a base r.value bytes h) h
 
   -- all that is promised of a call whose answer and bytes are those of the written rules
   pub promised : Promised e a base r bytes

@@ -9,35 +9,35 @@ use borrow.Author.Tests.{leb-false}
 use Rattle.wire.specs.Bytes.{field, le_bytes}
 use Rattle.rules.specs.Area.{down8}
 use Rattle.rules.specs.declared.Refusal.TheVariants.{Area, Short}
-use Rattle.rules.specs.Header.{headerOf, headerSize, headerBytes, freshHeader, checksumAt}
-use Rattle.rules.specs.Entries.{entriesOf}
-use Rattle.rules.specs.Checksum.{freshChecksum, seal}
+use Rattle.rules.specs.Header.{header_of, header_size, header_bytes, fresh_header, checksum_at}
+use Rattle.rules.specs.Entries.{entries_of}
+use Rattle.rules.specs.Checksum.{fresh_checksum, seal}
 use Rattle.rules.specs.Leftovers.{clean}
-use Rattle.rules.specs.Refusals.{refusesArea, refusesShortCreate}
+use Rattle.rules.specs.Refusals.{refuses_area, refuses_short_create}
 use Rattle.rules.specs.Outcome.{Outcome, refused, done}
-use Rattle.rules.specs.Create.{freshList, create}
+use Rattle.rules.specs.Create.{fresh_list, create}
 use Rattle.rules.specs.Demand3.{AcceptedV1, live_in, reading}
-use Rattle.laws.proofs.Check.{Usable, usable-of}
-use Rattle.laws.proofs.FreshList.{length-headerBytes, unsealed}
-use Rattle.laws.proofs.Ready.{Ready, ready_by, usedOf, total_of}
+use Rattle.laws.proofs.Check.{Usable, usable_of}
+use Rattle.laws.proofs.FreshList.{length-header_bytes, unsealed}
+use Rattle.laws.proofs.Ready.{Ready, ready_by, used_of, total_of}
 use Rattle.laws.proofs.Change.{Settled, settle}
-use Rattle.laws.proofs.Clean.{Clean, behind-zeros, clean-sealed}
+use Rattle.laws.proofs.Clean.{Clean, behind-zeros, clean_sealed}
 use Rattle.demand3.proofs.InPlace.{passed}
 
 -- what holds of a new list
 pub record Created (bytes : List ℕ) (base : ℕ) : Type 0 where
   pub again : AcceptedV1 bytes base
-  pub empty : entriesOf bytes ≡ []
+  pub empty : entries_of bytes ≡ []
   pub unread : reading bytes ≡ []
-  pub checksum : get_or bytes checksumAt 0 ≡ freshChecksum bytes
+  pub checksum : get_or bytes checksum_at 0 ≡ fresh_checksum bytes
   pub clean : clean bytes ≡ true
 
 -- it is ready, with no entry
-fresh-ready : (base len : ℕ) (has : Bool) → Usable base len → headerSize < len → Ready (unsealed len has) base []
-unfolding headerOf field headerBytes freshHeader le_bytes
-fresh-ready base len has usable long =
-    let l : length (unsealed len has) ≡ len = rw (length-append, length-headerBytes, length-replicate) (omega arith) in
-    let t : (headerOf (unsealed len has)).total_size ≡ down8 len = omega (arith, usable.short) in
+fresh_ready : (base len : ℕ) (has : Bool) → Usable base len → header_size < len → Ready (unsealed len has) base []
+unfolding header_of field header_bytes fresh_header le_bytes
+fresh_ready base len has usable long =
+    let l : length (unsealed len has) ≡ len = rw (length-append, length-header_bytes, length-replicate) (omega arith) in
+    let t : (header_of (unsealed len has)).total_size ≡ down8 len = omega (arith, usable.short) in
     ready_by (unsealed len has) base []
     (record {
       usable = rw l usable;
@@ -54,23 +54,23 @@ fresh-ready base len has usable long =
 
 -- create, where it is not refused, writes such a list
 pub created : (a : List ℕ) (base : ℕ) (has : Bool) (value : ℕ) (bytes : List ℕ) → create a base has ≡ done value bytes → Created bytes base
-unfolding create freshList live_in
+unfolding create fresh_list live_in
 created a base has value bytes h =
     let len : ℕ = length a in
-    let end : Outcome = done (down8 len) (freshList len has) in
-    let k₁ = passed (refusesArea base len) Area (cond (refusesShortCreate len) (refused Short) end) value bytes h in
-    let k₂ = passed (refusesShortCreate len) Short end value bytes k₁.1 in
+    let end : Outcome = done (down8 len) (fresh_list len has) in
+    let k₁ = passed (refuses_area base len) Area (cond (refuses_short_create len) (refused Short) end) value bytes h in
+    let k₂ = passed (refuses_short_create len) Short end value bytes k₁.1 in
     let d : end ≡ done value bytes = k₂.1 in
-    let b : freshList len has ≡ bytes = cc in
+    let b : fresh_list len has ≡ bytes = cc in
     let c : List ℕ = unsealed len has in
-    let long : headerSize < len = leb-false len headerSize k₂.0 in
-    let r : Ready c base [] = fresh-ready base len has (usable-of base len k₁.0) long in
+    let long : header_size < len = leb-false len header_size k₂.0 in
+    let r : Ready c base [] = fresh_ready base len has (usable_of base len k₁.0) long in
     let s : Settled c base [] (seal c) = settle c base [] r in
-    let l : length c ≡ headerSize + (len - headerSize) = rw (length-append, length-headerBytes, length-replicate) in
+    let l : length c ≡ header_size + (len - header_size) = rw (length-append, length-header_bytes, length-replicate) in
     let total : total_of c ≤ length c = r.header.sizes.total in
-    let used : usedOf c ≡ headerSize = sym r.row in
-    let h : List ℕ = headerBytes (freshHeader (down8 len) has) in
-    let lh : length h ≡ headerSize = length-headerBytes (freshHeader (down8 len) has) in
-    let swept : Clean c [] = record { rows = tt; tail = λ i x y. behind-zeros h (len - headerSize) i (omega arith) (omega arith) } in
+    let used : used_of c ≡ header_size = sym r.row in
+    let h : List ℕ = header_bytes (fresh_header (down8 len) has) in
+    let lh : length h ≡ header_size = length-header_bytes (fresh_header (down8 len) has) in
+    let swept : Clean c [] = record { rows = tt; tail = λ i x y. behind-zeros h (len - header_size) i (omega arith) (omega arith) } in
     subst (λ (l : List ℕ). Created l base) b
-    (record { again = s.again; empty = s.walked; unread = s.live; checksum = s.checksum; clean = clean-sealed c base [] r s swept })
+    (record { again = s.again; empty = s.walked; unread = s.live; checksum = s.checksum; clean = clean_sealed c base [] r s swept })

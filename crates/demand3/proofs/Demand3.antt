@@ -3,29 +3,29 @@ use mathlib.Core.Path.{◌≡◌, refl}
 use Prim.Native.Nat.{ℕ}
 use mathlib.Core.Bool.{true}
 use mathlib.Core.List.{List}
-use Rattle.rules.specs.Entries.{entriesOf}
+use Rattle.rules.specs.Entries.{entries_of}
 use Rattle.rules.specs.Outcome.{done}
-use Rattle.rules.specs.Edit.{Edit, toAdd, toAddAligned, toVoid, toRelocate, toTidy, toScrub, act, cleanOnly}
+use Rattle.rules.specs.Edit.{Edit, to_add, to_add_aligned, to_void, to_relocate, to_tidy, to_scrub, act, clean_only}
 use Rattle.rules.specs.Demand3.{AcceptedV1, Holds, Demand3}
 use Rattle.laws.proofs.Clean.{Clean}
 use Rattle.demand3.proofs.InPlace.{ran}
 use Rattle.demand3.proofs.Add.{add_holds}
-use Rattle.demand3.proofs.AddAligned.{add-aligned-holds}
-use Rattle.demand3.proofs.Void.{void-holds}
-use Rattle.demand3.proofs.Relocate.{relocate-holds}
-use Rattle.demand3.proofs.Tidy.{tidy-holds}
-use Rattle.demand3.proofs.Scrub.{scrub-holds}
+use Rattle.demand3.proofs.AddAligned.{add-aligned_holds}
+use Rattle.demand3.proofs.Void.{void_holds}
+use Rattle.demand3.proofs.Relocate.{relocate_holds}
+use Rattle.demand3.proofs.Tidy.{tidy_holds}
+use Rattle.demand3.proofs.Scrub.{scrub_holds}
 
 -- demand 3 of each act
-act-holds : (e : Edit) (a : List ℕ) (base value : ℕ) (bytes : List ℕ) → AcceptedV1 a base → (cleanOnly e ≡ true → Clean a (entriesOf a))
+act_holds : (e : Edit) (a : List ℕ) (base value : ℕ) (bytes : List ℕ) → AcceptedV1 a base → (clean_only e ≡ true → Clean a (entries_of a))
     → act e a base ≡ done value bytes → Holds e a base value bytes
-act-holds (toAdd tag content useVoids) a base value bytes accepted c h = add_holds a base tag value content useVoids bytes accepted (c refl) h
-act-holds (toAddAligned tag content exponent) a base value bytes accepted c h =
-    add-aligned-holds a base tag value content exponent bytes accepted (c refl) h
-act-holds (toVoid tag n) a base value bytes accepted c h = void-holds a base tag n value bytes accepted (c refl) h
-act-holds (toRelocate target targetBase) a base value bytes accepted c h = relocate-holds a base target targetBase value bytes accepted (c refl) h
-act-holds toTidy a base value bytes accepted c h = tidy-holds a base value bytes accepted (c refl) h
-act-holds toScrub a base value bytes accepted c h = scrub-holds a base value bytes accepted h
+act_holds (to_add tag content use_voids) a base value bytes accepted c h = add_holds a base tag value content use_voids bytes accepted (c refl) h
+act_holds (to_add_aligned tag content exponent) a base value bytes accepted c h =
+    add-aligned_holds a base tag value content exponent bytes accepted (c refl) h
+act_holds (to_void tag n) a base value bytes accepted c h = void_holds a base tag n value bytes accepted (c refl) h
+act_holds (to_relocate target target_base) a base value bytes accepted c h = relocate_holds a base target target_base value bytes accepted (c refl) h
+act_holds to_tidy a base value bytes accepted c h = tidy_holds a base value bytes accepted (c refl) h
+act_holds to_scrub a base value bytes accepted c h = scrub_holds a base value bytes accepted h
 
 -- The theorem. Take any list a at any base that a check accepts with version 1, and any edit of it: an add with any tag,
 -- any bytes of data and voids allowed or not; an add aligned to any exponent; a void of any occurrence of any tag; a relocation to
@@ -48,4 +48,4 @@ act-holds toScrub a base value bytes accepted c h = scrub-holds a base value byt
 pub demand3 : Demand3
 demand3 e a base value bytes accepted h =
     let k = ran e a base value bytes h in
-    act-holds e a base value bytes accepted k.clean k.acted
+    act_holds e a base value bytes accepted k.clean k.acted

@@ -7,94 +7,94 @@ use mathlib.Core.List.{List, ◌∷◌, map}
 use lib.ListN.{length, get_or}
 use Rattle.wire.specs.Bytes.{le_bytes}
 use Rattle.wire.proofs.Splice.{splice-nil}
-use Rattle.wire.proofs.Field.{length-leBytes}
+use Rattle.wire.proofs.Field.{length-le_bytes}
 use Rattle.rules.specs.declared.Entry.{Entry}
-use Rattle.rules.specs.Header.{headerSize, withUsed}
-use Rattle.rules.specs.Entries.{dataOffset, entriesOf, liveOnes}
+use Rattle.rules.specs.Header.{header_size, with_used}
+use Rattle.rules.specs.Entries.{data_offset, entries_of, live_ones}
 use Rattle.rules.specs.Checksum.{seal}
 use Rattle.rules.specs.Leftovers.{clean}
 use Rattle.rules.specs.Outcome.{done}
-use Rattle.rules.specs.Tidy.{tidied, writeVoids, end_of, tidyUsed, tidyBytes, tidy}
-use Rattle.rules.specs.Edit.{toTidy}
-use Rattle.rules.specs.Demand3.{AcceptedV1, Holds, bytesFrom, reading, voidStretches}
+use Rattle.rules.specs.Tidy.{tidied, write_voids, end_of, tidy_used, tidy_bytes, tidy}
+use Rattle.rules.specs.Edit.{to_tidy}
+use Rattle.rules.specs.Demand3.{AcceptedV1, Holds, bytes_from, reading, void_stretches}
 use Rattle.rules.specs.TidyTwice.{TidyOnce, TidyTwice}
 use Rattle.laws.proofs.Row.{Same}
-use Rattle.laws.proofs.Differs.{Outside, outside, seal-differs}
+use Rattle.laws.proofs.Differs.{Outside, outside, seal_differs}
 use Rattle.laws.proofs.Seal.{seal-length, seal-used, seal-again}
-use Rattle.laws.proofs.Ready.{ready_of, usedOf}
+use Rattle.laws.proofs.Ready.{ready_of, used_of}
 use Rattle.laws.proofs.Change.{Settled, settle}
 use Rattle.laws.proofs.Tidy.{tidied-tidied, live-tidied, tidied-is-tidy}
-use Rattle.laws.proofs.Tiles.{voids-same, splice-written, wrote-again}
-use Rattle.laws.proofs.Clean.{Clean, clean-sealed}
+use Rattle.laws.proofs.Tiles.{voids_same, splice_written, wrote_again}
+use Rattle.laws.proofs.Clean.{Clean, clean_sealed}
 use Rattle.laws.proofs.Cleared.{Cleared, cleared}
-use Rattle.demand3.proofs.InPlace.{ran, runs, sealed-holds}
+use Rattle.demand3.proofs.InPlace.{ran, runs, sealed_holds}
 
 -- ---- demand 3
 
 -- Demand 3 for tidy
-pub tidy-holds : (a : List ℕ) (base value : ℕ) (bytes : List ℕ) → AcceptedV1 a base → Clean a (entriesOf a) → tidy a ≡ done value bytes
-    → Holds toTidy a base value bytes
+pub tidy_holds : (a : List ℕ) (base value : ℕ) (bytes : List ℕ) → AcceptedV1 a base → Clean a (entries_of a) → tidy a ≡ done value bytes
+    → Holds to_tidy a base value bytes
 unfolding tidy reading
-tidy-holds a base value bytes h zeros is =
-    let es : List Entry = entriesOf a in
-    let c : List ℕ = tidyBytes a in
-    let k : Cleared a c base (tidyUsed a) es = cleared a base (ready_of a base h) in
+tidy_holds a base value bytes h zeros is =
+    let es : List Entry = entries_of a in
+    let c : List ℕ = tidy_bytes a in
+    let k : Cleared a c base (tidy_used a) es = cleared a base (ready_of a base h) in
     let q : Settled c base (tidied es) (seal c) = settle c base (tidied es) k.changed.ready in
     let sealed : seal c ≡ bytes = cc in
-    let others : (i : ℕ) → Outside (bytesFrom 4 1 ∷ bytesFrom 8 4 ∷ voidStretches es) i → get_or (seal c) i 0 ≡ get_or a i 0 =
-    λ i o. seal-differs c i (o.0, tt) ∙ k.differs i o.1 in
-    sealed-holds toTidy a base value bytes refl sealed k.size (λ i n. others i (outside _ i n)) k.changed (k.clean zeros) refl
-    (ap (λ (l : List Entry). map (λ (e : Entry). base + dataOffset e) l) (ap liveOnes q.walked ∙ live-tidied es))
+    let others : (i : ℕ) → Outside (bytes_from 4 1 ∷ bytes_from 8 4 ∷ void_stretches es) i → get_or (seal c) i 0 ≡ get_or a i 0 =
+    λ i o. seal_differs c i (o.0, tt) ∙ k.differs i o.1 in
+    sealed_holds to_tidy a base value bytes refl sealed k.size (λ i n. others i (outside _ i n)) k.changed (k.clean zeros) refl
+    (ap (λ (l : List Entry). map (λ (e : Entry). base + data_offset e) l) (ap live_ones q.walked ∙ live-tidied es))
 
 -- ---- tidying twice
 
 -- b has the entries ts and u used bytes, and all that a tidying of it writes stands there
 record Standing (b : List ℕ) (u : ℕ) (ts : List Entry) : Type 0 where
-  pub walked : entriesOf b ≡ ts
+  pub walked : entries_of b ≡ ts
   pub tidy : tidied ts ≡ ts
-  pub end : end_of headerSize (liveOnes ts) ≡ u
-  pub used : usedOf b ≡ u
-  pub voids : writeVoids ts b ≡ b
-  pub number : withUsed u b ≡ b
+  pub end : end_of header_size (live_ones ts) ≡ u
+  pub used : used_of b ≡ u
+  pub voids : write_voids ts b ≡ b
+  pub number : with_used u b ≡ b
   pub checksum : seal b ≡ b
 
 -- then tidying changes nothing
-standing-bytes : (b : List ℕ) (u : ℕ) (ts : List Entry) → Standing b u ts → tidyBytes b ≡ b
-unfolding tidyBytes
-standing-bytes b u ts s =
+standing_bytes : (b : List ℕ) (u : ℕ) (ts : List Entry) → Standing b u ts → tidy_bytes b ≡ b
+unfolding tidy_bytes
+standing_bytes b u ts s =
     let none : u - u ≡ 0 = omega arith in
     rw (s.walked, s.tidy, s.voids, s.end, s.used, none, splice-nil b u, s.number)
 
-standing-tidy : (b : List ℕ) (u : ℕ) (ts : List Entry) → Standing b u ts → tidy b ≡ done u b
+standing_tidy : (b : List ℕ) (u : ℕ) (ts : List Entry) → Standing b u ts → tidy b ≡ done u b
 unfolding tidy
-standing-tidy b u ts s = rw (standing-bytes b u ts s, s.walked, s.end, s.checksum)
+standing_tidy b u ts s = rw (standing_bytes b u ts s, s.walked, s.end, s.checksum)
 
 -- of a list that was tidied all that stands there
-once : (a : List ℕ) (base : ℕ) → AcceptedV1 a base → Clean a (entriesOf a) → TidyOnce base (tidyUsed a) (seal (tidyBytes a))
+once : (a : List ℕ) (base : ℕ) → AcceptedV1 a base → Clean a (entries_of a) → TidyOnce base (tidy_used a) (seal (tidy_bytes a))
 once a base h zeros =
-    let es : List Entry = entriesOf a in
-    let c : List ℕ = tidyBytes a in
+    let es : List Entry = entries_of a in
+    let c : List ℕ = tidy_bytes a in
     let b : List ℕ = seal c in
-    let u : ℕ = tidyUsed a in
+    let u : ℕ = tidy_used a in
     let k : Cleared a c base u es = cleared a base (ready_of a base h) in
     let q : Settled c base (tidied es) b = settle c base (tidied es) k.changed.ready in
     let lb : length b ≡ length c = seal-length c in
-    let mid : Same c b 24 u = λ i x y. sym (seal-differs c i (λ z. omega arith, tt)) in
-    let l4 : length (le_bytes 4 u) ≡ 4 = length-leBytes 4 u in
+    let mid : Same c b 24 u = λ i x y. sym (seal_differs c i (λ z. omega arith, tt)) in
+    let l4 : length (le_bytes 4 u) ≡ 4 = length-le_bytes 4 u in
     let s : Standing b u (tidied es) =
     record {
       walked = q.walked;
       tidy = tidied-tidied es;
-      end = ap (end_of headerSize) (live-tidied es);
+      end = ap (end_of header_size) (live-tidied es);
       used = seal-used c ∙ k.used;
-      voids = wrote-again b 24 u (tidied es) (omega (arith, k.inside)) (voids-same c b 24 u (tidied es) mid k.voids);
-      number = splice-written b 8 (le_bytes 4 u) (omega (arith, k.low, k.inside))
-          (λ i l. seal-differs c (8 + i) (λ z. omega arith, tt) ∙ k.number i l);
+      voids = wrote_again b 24 u (tidied es) (omega (arith, k.inside)) (voids_same c b 24 u (tidied es) mid k.voids);
+      number = splice_written b 8 (le_bytes 4 u) (omega (arith, k.low, k.inside))
+          (λ i l. seal_differs c (8 + i) (λ z. omega arith, tt) ∙ k.number i l);
       checksum = seal-again b q.checksum;
     } in
-    let swept : clean b ≡ true = clean-sealed c base (tidied es) k.changed.ready q (k.clean zeros) in
+    let swept : clean b ≡ true = clean_sealed c base (tidied es) k.changed.ready q (k.clean zeros) in
     record {
-      twice = runs toTidy b base q.again (λ o. swept) ∙ standing-tidy b u (tidied es) s;
+      twice = runs to_tidy b base q.again (λ o. swept) ∙ standing_tidy b u (tidied es) s;
       tidy = rw q.walked (tidied-is-tidy es);
     }
 
@@ -103,8 +103,8 @@ once a base h zeros =
 pub tidy-twice : TidyTwice
 unfolding tidy
 tidy-twice a base value bytes h =
-    let k = ran toTidy a base value bytes h in
-    let is : done (tidyUsed a) (seal (tidyBytes a)) ≡ done value bytes = k.acted in
-    let v : tidyUsed a ≡ value = cc in
-    let b : seal (tidyBytes a) ≡ bytes = cc in
+    let k = ran to_tidy a base value bytes h in
+    let is : done (tidy_used a) (seal (tidy_bytes a)) ≡ done value bytes = k.acted in
+    let v : tidy_used a ≡ value = cc in
+    let b : seal (tidy_bytes a) ≡ bytes = cc in
     rw (← v, ← b) (once a base k.listed (k.clean refl))

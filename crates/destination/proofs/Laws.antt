@@ -12,11 +12,11 @@ use borrow.Author.Tests.{ltb-false}
 use Rattle.wire.specs.Bytes.{splice}
 use Rattle.wire.proofs.Splice.{length-splice, splice-append, splice_all}
 use Rattle.rules.specs.declared.Refusal.TheVariants.{Target, Room}
-use Rattle.rules.specs.Area.{maxLength}
-use Rattle.rules.specs.Refusals.{refusesTarget}
+use Rattle.rules.specs.Area.{max_length}
+use Rattle.rules.specs.Refusals.{refuses_target}
 use Rattle.rules.specs.Outcome.{Outcome, refused, done}
-use Rattle.rules.specs.Relocate.{in_block, inTarget}
-use Rattle.laws.proofs.Passed.{target-reach}
+use Rattle.rules.specs.Relocate.{in_block, in_target}
+use Rattle.laws.proofs.Passed.{target_reach}
 use Rattle.destination.specs.declared.Place.{Place}
 use Rattle.destination.specs.declared.Place.TheVariants.{At, Refused}
 use Rattle.destination.specs.Place.{shift_by, placed}
@@ -30,42 +30,42 @@ block_near m base target h = omega (arith, mod-lt base h, div-mul-le_self target
 -- ---- the place of a list
 
 -- what a call comes to whose list has this place, by the bytes that it leaves for each shift
-abbrev pub outcomeAt : (ℕ → List ℕ) → Place → Outcome
-outcomeAt bytes (At by) = done by (bytes by)
-outcomeAt bytes (Refused r) = refused r
+abbrev pub outcome_at : (ℕ → List ℕ) → Place → Outcome
+outcome_at bytes (At by) = done by (bytes by)
+outcome_at bytes (Refused r) = refused r
 
 -- a call that refuses by 12, then by 14, and else leaves the bytes for its shift, comes to what the place does
-pub outcome-placed : (t r : Bool) (by : ℕ) (bytes : ℕ → List ℕ)
-    → cond t (refused Target) (cond r (refused Room) (done by (bytes by))) ≡ outcomeAt bytes (cond t (Refused Target) (cond r (Refused Room) (At by)))
-outcome-placed true r by bytes = refl
-outcome-placed false true by bytes = refl
-outcome-placed false false by bytes = refl
+pub outcome_placed : (t r : Bool) (by : ℕ) (bytes : ℕ → List ℕ)
+    → cond t (refused Target) (cond r (refused Room) (done by (bytes by))) ≡ outcome_at bytes (cond t (Refused Target) (cond r (Refused Room) (At by)))
+outcome_placed true r by bytes = refl
+outcome_placed false true by bytes = refl
+outcome_placed false false by bytes = refl
 
 -- what a place tells of a list of used bytes: it fits there, and the target is not too long
 pub record HasRoom (len used by : ℕ) : Type 0 where
   pub room : by + used ≤ len
-  pub short : len ≤ maxLength
+  pub short : len ≤ max_length
 
 pub placed-room : (m base growth target len used by : ℕ) → placed m base growth target len used ≡ At by → HasRoom len used by
-placed-room m base growth target len used by h = go (refusesTarget target len) (ltb len (shift + used)) refl refl h
+placed-room m base growth target len used by h = go (refuses_target target len) (ltb len (shift + used)) refl refl h
   where
     shift : ℕ
     shift = shift_by m base growth target
 
-    go : (t r : Bool) → refusesTarget target len ≡ t → ltb len (shift + used) ≡ r
+    go : (t r : Bool) → refuses_target target len ≡ t → ltb len (shift + used) ≡ r
         → cond t (Refused Target) (cond r (Refused Room) (At shift)) ≡ At by → HasRoom len used by
     go true r p q k = absurd (let z : ◌≡◌ {A = ℕ} 0 1 = cc in omega arith)
     go false true p q k = absurd (let z : ◌≡◌ {A = ℕ} 0 1 = cc in omega arith)
     go false false p q k =
         let e : by ≡ shift = cc in
-        record { room = rw e (ltb-false _ _ q); short = (target-reach target len p).1 }
+        record { room = rw e (ltb-false _ _ q); short = (target_reach target len p).1 }
 
 -- ---- the target's bytes
 
 -- zeros, a list and zeros, one behind the other, that fill the target
 pub laid : (t m : List ℕ) (by : ℕ) → by + length m ≤ length t
-    → splice (splice (splice t 0 (replicate by 0)) by m) (by + length m) (replicate (length t - by - length m) 0) ≡ inTarget (length t) by m
-unfolding inTarget
+    → splice (splice (splice t 0 (replicate by 0)) by m) (by + length m) (replicate (length t - by - length m) 0) ≡ in_target (length t) by m
+unfolding in_target
 laid t m by h =
     let p : List ℕ = replicate by 0 in
     let z : List ℕ = replicate (length t - by - length m) 0 in
@@ -79,9 +79,9 @@ laid t m by h =
     ∙ splice_all t (p ++ (m ++ z)) l
 
 -- bytes put right before the list that stands in a target
-pub laid-before : (len by : ℕ) (m e : List ℕ) → splice (inTarget len (by + length m) e) by m ≡ inTarget len by (m ++ e)
-unfolding inTarget splice
-laid-before len by m e =
+pub laid_before : (len by : ℕ) (m e : List ℕ) → splice (in_target len (by + length m) e) by m ≡ in_target len by (m ++ e)
+unfolding in_target splice
+laid_before len by m e =
     let o : List ℕ = replicate by 0 in
     let z : List ℕ = replicate (len - (by + length m) - length e) 0 in
     let n : len - (by + length m) - length e ≡ len - by - length (m ++ e) = rw length-append (omega arith) in

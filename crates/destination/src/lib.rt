@@ -1,8 +1,8 @@
 // Where a list is put when it goes into another area: refusals 12 and 14, the new base, and the target's bytes around the list.
 ghost use Rattle.std.specs.Prelude.{◌≡◌, ◌+◌, ◌≤◌, ◌<◌, ◌^◌, length};
-ghost use Rattle.rules.specs.Refusals.{refusesTarget};
-ghost use Rattle.rules.specs.Relocate.{newBase as newBaseRule, inTarget};
-ghost use Rattle.destination.specs.Place.{placed, refusalOfPlace};
+ghost use Rattle.rules.specs.Refusals.{refuses_target};
+ghost use Rattle.rules.specs.Relocate.{new_base as new_base_rule, in_target};
+ghost use Rattle.destination.specs.Place.{placed, refusal_of_place};
 
 use rules::Refusal;
 
@@ -16,7 +16,7 @@ pub enum Place {
 impl Place {
     // Why the list does not go there.
     pub fn refusal(self) -> Refusal
-        ensures { result ≡ refusalOfPlace self }
+        ensures { result ≡ refusal_of_place self }
     {
         match self {
             Place::At(_) => Refusal::Area,
@@ -27,7 +27,7 @@ impl Place {
 
 // Refusal 12.
 pub(crate) fn refuses_target(base: u64, len: usize) -> bool
-    ensures { result ≡ refusesTarget base len }
+    ensures { result ≡ refuses_target base len }
 {
     if rules::MAX_LENGTH < len {
         return true;
@@ -41,7 +41,7 @@ pub(crate) fn refuses_target(base: u64, len: usize) -> bool
 // The lowest address at or above target that equals base modulo 2^alignment.
 pub(crate) fn new_base(alignment: u8, base: u64, target: u64) -> u64
     requires { (alignment < 32) × (target < 2 ^ 62) }
-    ensures { result ≡ newBaseRule (2 ^ alignment) base target }
+    ensures { result ≡ new_base_rule (2 ^ alignment) base target }
 {
     let m = 1u64 << alignment;
     let candidate = target / m * m + base % m;
@@ -78,7 +78,7 @@ pub fn find_place(
 // A list from the shift on, and zero in every other byte of the target.
 pub fn lay_out(target: &mut [u8], shift: usize, list: &[u8])
     requires { shift + length list.now ≤ length target.old }
-    ensures { target.new ≡ inTarget (length target.old) shift list.now }
+    ensures { target.new ≡ in_target (length target.old) shift list.now }
 {
     let behind = shift + list.len();
     let left = target.len() - shift - list.len();

@@ -41,31 +41,31 @@ pub record Same (P Q : ℕ → Type 0) : Type 0 where
 pub same_refl : {P : ℕ → Type 0} → Same P P
 same_refl = record { to = λ n p. p; from = λ n p. p }
 
-pub same-trans : {P Q R : ℕ → Type 0} → Same P Q → Same Q R → Same P R
-same-trans a b = record { to = λ n p. b.to n (a.to n p); from = λ n r. a.from n (b.from n r) }
+pub same_trans : {P Q R : ℕ → Type 0} → Same P Q → Same Q R → Same P R
+same_trans a b = record { to = λ n p. b.to n (a.to n p); from = λ n r. a.from n (b.from n r) }
 
-pub same-decides : {P Q : ℕ → Type 0} {r : Place} → Same P Q → Decides Q r → Decides P r
-same-decides a d = record { sound = λ n e. a.from n (d.sound n e); complete = λ n p. d.complete n (a.to n p) }
+pub same_decides : {P Q : ℕ → Type 0} {r : Place} → Same P Q → Decides Q r → Decides P r
+same_decides a d = record { sound = λ n e. a.from n (d.sound n e); complete = λ n p. d.complete n (a.to n p) }
 
 -- ---- yes or no
 
-pub said-yes : {P : Type 0} {r : Bool} → Answers P r → r ≡ true → P
-said-yes (yes p) e = p
-said-yes (no f) e = absurd (false≢true e)
+pub said_yes : {P : Type 0} {r : Bool} → Answers P r → r ≡ true → P
+said_yes (yes p) e = p
+said_yes (no f) e = absurd (false≢true e)
 
-pub said-no : {P : Type 0} {r : Bool} → Answers P r → r ≡ false → P → ⊥
-said-no (yes p) e q = false≢true (sym e)
-said-no (no f) e q = f q
+pub said_no : {P : Type 0} {r : Bool} → Answers P r → r ≡ false → P → ⊥
+said_no (yes p) e q = false≢true (sym e)
+said_no (no f) e q = f q
 
 -- a test that is true exactly where P holds answers for it
-pub answers-test : {P : Type 0} (r : Bool) → (r ≡ true → P) → (P → r ≡ true) → Answers P r
-answers-test true f g = yes (f refl)
-answers-test false f g = no (λ p. false≢true (g p))
+pub answers_test : {P : Type 0} (r : Bool) → (r ≡ true → P) → (P → r ≡ true) → Answers P r
+answers_test true f g = yes (f refl)
+answers_test false f g = no (λ p. false≢true (g p))
 
 -- an answer for P is one for Q, where each gives the other
-pub answers-same : {P Q : Type 0} {r : Bool} → (P → Q) → (Q → P) → Answers P r → Answers Q r
-answers-same f g (yes p) = yes (f p)
-answers-same f g (no h) = no (λ q. h (g q))
+pub answers_same : {P Q : Type 0} {r : Bool} → (P → Q) → (Q → P) → Answers P r → Answers Q r
+answers_same f g (yes p) = yes (f p)
+answers_same f g (no h) = no (λ q. h (g q))
 
 pub both : (a b : Bool) → (a && b) ≡ true → (a ≡ true) × (b ≡ true)
 both true b h = (refl, h)

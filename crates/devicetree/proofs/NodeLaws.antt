@@ -9,22 +9,22 @@ use Rattle.devicetree.specs.declared.bytes.Place.{Place}
 use Rattle.devicetree.specs.declared.bytes.Place.TheVariants.{At, Nowhere}
 use Rattle.devicetree.specs.declared.tokens.Next.{Next}
 use Rattle.devicetree.specs.declared.tokens.Next.TheVariants.{Is, Nothing}
-use Rattle.devicetree.specs.Structure.{Name, Property, Node, node, Members, property, subnode, close, beginNode, endNode, prop}
+use Rattle.devicetree.specs.Structure.{Name, Property, Node, node, Members, property, subnode, close, begin_node, end_node, prop}
 use Rattle.devicetree.specs.Decided.{Decides, DecidesToken}
 use Rattle.devicetree.proofs.Deciding.{decided, holds, only, never, Same}
-use Rattle.devicetree.proofs.TokenLaws.{token-bounds, token-only, token-never, token-is}
+use Rattle.devicetree.proofs.TokenLaws.{token_bounds, token_only, token_never, token_is}
 use Rattle.devicetree.proofs.PartLaws.{name-bounds, property-bounds}
 
 module _ {s t : List ℕ} where
   mutual
     pub node-bounds : {h at n : ℕ} → Node s t h at n → (at < n) × (n ≤ length s)
-    node-bounds (node e w m) = let x = name-bounds w in let y = members-bounds m in (omega arith, y.1)
+    node-bounds (node e w m) = let x = name-bounds w in let y = members_bounds m in (omega arith, y.1)
 
-    pub members-bounds : {p : Bool} {d at n : ℕ} → Members s t p d at n → (at < n) × (n ≤ length s)
-    members-bounds (property e k v m) =
-        let x = token-bounds k in let y = property-bounds v in let z = members-bounds m in (omega arith, z.1)
-    members-bounds (subnode k v m) = let x = token-bounds k in let y = node-bounds v in let z = members-bounds m in (omega arith, z.1)
-    members-bounds (close k) = let x = token-bounds k in (omega arith, x.1)
+    pub members_bounds : {p : Bool} {d at n : ℕ} → Members s t p d at n → (at < n) × (n ≤ length s)
+    members_bounds (property e k v m) =
+        let x = token_bounds k in let y = property-bounds v in let z = members_bounds m in (omega arith, z.1)
+    members_bounds (subnode k v m) = let x = token_bounds k in let y = node-bounds v in let z = members_bounds m in (omega arith, z.1)
+    members_bounds (close k) = let x = token_bounds k in (omega arith, x.1)
 
   -- ---- a node: its name, then its members
 
@@ -48,81 +48,81 @@ module _ {s t : List ℕ} where
 
 -- what members up to n are whose first token is k, up to a
 pub data First (s t : List ℕ) (p : Bool) (d k a n : ℕ) : Type 0 where
-  of-property : k ≡ prop → p ≡ true → (m : ℕ) → Property s t a m → Members s t p d m n → First s t p d k a n
-  of-subnode : k ≡ beginNode → (m : ℕ) → Node s t d a m → Members s t false d m n → First s t p d k a n
-  of-close : k ≡ endNode → n ≡ a → First s t p d k a n
+  of_property : k ≡ prop → p ≡ true → (m : ℕ) → Property s t a m → Members s t p d m n → First s t p d k a n
+  of_subnode : k ≡ begin_node → (m : ℕ) → Node s t d a m → Members s t false d m n → First s t p d k a n
+  of_close : k ≡ end_node → n ≡ a → First s t p d k a n
 
 module _ {s t : List ℕ} {at : ℕ} {r : Next} (T : DecidesToken s at r) {p : Bool} {d : ℕ} where
-  pub members-none : r ≡ Nothing → (n : ℕ) → Members s t p d at n → ⊥
-  members-none q n (property e k v w) = token-never T q k (λ g. omega arith)
-  members-none q n (subnode k v w) = token-never T q k (λ g. omega arith)
-  members-none q n (close k) = token-never T q k (λ g. omega arith)
+  pub members_none : r ≡ Nothing → (n : ℕ) → Members s t p d at n → ⊥
+  members_none q n (property e k v w) = token_never T q k (λ g. omega arith)
+  members_none q n (subnode k v w) = token_never T q k (λ g. omega arith)
+  members_none q n (close k) = token_never T q k (λ g. omega arith)
 
   module _ {k a : ℕ} (q : r ≡ Is k a) where
     -- the first token is the one that was read
     pub first_of : (n : ℕ) → Members s t p d at n → First s t p d k a n
     first_of n (property {m = m} e x v w) =
-        let y = token-only T q x (λ g. omega arith) in of-property (sym y.0) e m (subst (λ (i : ℕ). Property s t i m) y.1 v) w
+        let y = token_only T q x (λ g. omega arith) in of_property (sym y.0) e m (subst (λ (i : ℕ). Property s t i m) y.1 v) w
     first_of n (subnode {m = m} x v w) =
-        let y = token-only T q x (λ g. omega arith) in of-subnode (sym y.0) m (subst (λ (i : ℕ). Node s t d i m) y.1 v) w
-    first_of n (close x) = let y = token-only T q x (λ g. omega arith) in of-close (sym y.0) y.1
+        let y = token_only T q x (λ g. omega arith) in of_subnode (sym y.0) m (subst (λ (i : ℕ). Node s t d i m) y.1 v) w
+    first_of n (close x) = let y = token_only T q x (λ g. omega arith) in of_close (sym y.0) y.1
 
-    pub members-close : k ≡ endNode → Decides (Members s t p d at) (At a)
-    members-close e = decided a (close (token-is T q e)) (λ m x. go (first_of m x))
+    pub members_close : k ≡ end_node → Decides (Members s t p d at) (At a)
+    members_close e = decided a (close (token_is T q e)) (λ m x. go (first_of m x))
       where
         go : {m : ℕ} → First s t p d k a m → m ≡ a
-        go (of-property f l m v w) = absurd (omega arith)
-        go (of-subnode f m v w) = absurd (omega arith)
-        go (of-close f l) = l
+        go (of_property f l m v w) = absurd (omega arith)
+        go (of_subnode f m v w) = absurd (omega arith)
+        go (of_close f l) = l
 
-    pub members-other : (k ≡ endNode → ⊥) → (k ≡ beginNode → ⊥) → (k ≡ prop → ⊥) → (n : ℕ) → Members s t p d at n → ⊥
-    members-other f g h n x = go (first_of n x)
+    pub members_other : (k ≡ end_node → ⊥) → (k ≡ begin_node → ⊥) → (k ≡ prop → ⊥) → (n : ℕ) → Members s t p d at n → ⊥
+    members_other f g h n x = go (first_of n x)
       where
         go : First s t p d k a n → ⊥
-        go (of-property e l m v w) = h e
-        go (of-subnode e m v w) = g e
-        go (of-close e l) = f e
+        go (of_property e l m v w) = h e
+        go (of_subnode e m v w) = g e
+        go (of_close e l) = f e
 
-    pub members-late : k ≡ prop → p ≡ false → (n : ℕ) → Members s t p d at n → ⊥
-    members-late e f n x = go (first_of n x)
+    pub members_late : k ≡ prop → p ≡ false → (n : ℕ) → Members s t p d at n → ⊥
+    members_late e f n x = go (first_of n x)
       where
         go : First s t p d k a n → ⊥
-        go (of-property g l m v w) = false≢true (sym f ∙ l)
-        go (of-subnode g m v w) = omega arith
-        go (of-close g l) = omega arith
+        go (of_property g l m v w) = false≢true (sym f ∙ l)
+        go (of_subnode g m v w) = omega arith
+        go (of_close g l) = omega arith
 
     -- a subnode, and what is left behind it
-    module _ (e : k ≡ beginNode) {o : Place} (N : Decides (Node s t d a) o) where
-      pub members-no-node : o ≡ Nowhere → (n : ℕ) → Members s t p d at n → ⊥
-      members-no-node h n x = go (first_of n x)
+    module _ (e : k ≡ begin_node) {o : Place} (N : Decides (Node s t d a) o) where
+      pub members_no-node : o ≡ Nowhere → (n : ℕ) → Members s t p d at n → ⊥
+      members_no-node h n x = go (first_of n x)
         where
           go : First s t p d k a n → ⊥
-          go (of-property f l m v w) = omega arith
-          go (of-subnode f m v w) = never N h m v
-          go (of-close f l) = omega arith
+          go (of_property f l m v w) = omega arith
+          go (of_subnode f m v w) = never N h m v
+          go (of_close f l) = omega arith
 
-      pub members-node : {m : ℕ} → o ≡ At m → Same (Members s t p d at) (Members s t false d m)
-      members-node {m} h = record { to = λ n x. go (first_of n x); from = λ n x. subnode (token-is T q e) (holds N h) x }
+      pub members_node : {m : ℕ} → o ≡ At m → Same (Members s t p d at) (Members s t false d m)
+      members_node {m} h = record { to = λ n x. go (first_of n x); from = λ n x. subnode (token_is T q e) (holds N h) x }
         where
           go : {n : ℕ} → First s t p d k a n → Members s t false d m n
-          go (of-property f l m' v w) = absurd (omega arith)
-          go {n} (of-subnode f m' v w) = subst (λ (i : ℕ). Members s t false d i n) (only N h m' v) w
-          go (of-close f l) = absurd (omega arith)
+          go (of_property f l m' v w) = absurd (omega arith)
+          go {n} (of_subnode f m' v w) = subst (λ (i : ℕ). Members s t false d i n) (only N h m' v) w
+          go (of_close f l) = absurd (omega arith)
 
     -- a property, and what is left behind it
     module _ (e : k ≡ prop) {o : Place} (U : Decides (Property s t a) o) where
-      pub members-no-property : o ≡ Nowhere → (n : ℕ) → Members s t p d at n → ⊥
-      members-no-property h n x = go (first_of n x)
+      pub members_no-property : o ≡ Nowhere → (n : ℕ) → Members s t p d at n → ⊥
+      members_no-property h n x = go (first_of n x)
         where
           go : First s t p d k a n → ⊥
-          go (of-property f l m v w) = never U h m v
-          go (of-subnode f m v w) = omega arith
-          go (of-close f l) = omega arith
+          go (of_property f l m v w) = never U h m v
+          go (of_subnode f m v w) = omega arith
+          go (of_close f l) = omega arith
 
-      pub members-property : {m : ℕ} → p ≡ true → o ≡ At m → Same (Members s t p d at) (Members s t p d m)
-      members-property {m} l h = record { to = λ n x. go (first_of n x); from = λ n x. property l (token-is T q e) (holds U h) x }
+      pub members_property : {m : ℕ} → p ≡ true → o ≡ At m → Same (Members s t p d at) (Members s t p d m)
+      members_property {m} l h = record { to = λ n x. go (first_of n x); from = λ n x. property l (token_is T q e) (holds U h) x }
         where
           go : {n : ℕ} → First s t p d k a n → Members s t p d m n
-          go {n} (of-property f l m' v w) = subst (λ (i : ℕ). Members s t p d i n) (only U h m' v) w
-          go (of-subnode f m' v w) = absurd (omega arith)
-          go (of-close f l) = absurd (omega arith)
+          go {n} (of_property f l m' v w) = subst (λ (i : ℕ). Members s t p d i n) (only U h m' v) w
+          go (of_subnode f m' v w) = absurd (omega arith)
+          go (of_close f l) = absurd (omega arith)

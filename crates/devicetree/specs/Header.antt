@@ -8,8 +8,8 @@ unfoldable pub cell : List ℕ → ℕ → ℕ
 cell d at = get_or d (at + 3) 0 + 256 * (get_or d (at + 2) 0 + 256 * (get_or d (at + 1) 0 + 256 * get_or d at 0))
 
 -- the header's fields under the Devicetree Specification's names; that of the boot processor, at 28, is not judged
-unfoldable pub headerOf : List ℕ → Header
-headerOf d =
+unfoldable pub header_of : List ℕ → Header
+header_of d =
     record {
       magic = cell d 0;
       totalsize = cell d 4;
@@ -27,14 +27,14 @@ abbrev pub identified : Header → Bool
 identified h = eqb h.magic 0xd00dfeed && eqb h.version 17 && eqb h.last_comp_version 16
 
 -- "header (40 bytes)"
-abbrev pub headerSize : ℕ
-headerSize = 40
+abbrev pub header_size : ℕ
+header_size = 40
 
 -- "The blocks stand in the order header (40 bytes), reservation, structure, strings, without overlap, within totalsize, and totalsize
 -- lies within the data"; where the reservation block ends is said below
 abbrev pub ordered : Header → ℕ → Bool
 ordered h len =
-    leb headerSize h.off_mem_rsvmap
+    leb header_size h.off_mem_rsvmap
     && leb (h.off_dt_struct + h.size_dt_struct) h.off_dt_strings
     && leb (h.off_dt_strings + h.size_dt_strings) h.totalsize
     && leb h.totalsize len
@@ -52,11 +52,11 @@ abbrev pub Zeros : List ℕ → ℕ → ℕ → Type 0
 Zeros d from to = (k : ℕ) → from ≤ k → k < to → get_or d k 0 ≡ 0
 
 -- a pair of the reservation block takes 16 bytes
-abbrev pub pairSize : ℕ
-pairSize = 16
+abbrev pub pair_size : ℕ
+pair_size = 16
 
 -- "reservation block ended by a zero pair": from a place on, pairs up to the first whose bytes are all 0, which ends at or before the
 -- structure's offset
 pub data Reservation (d : List ℕ) (structure : ℕ) : ℕ → Type 0 where
-  last : {at : ℕ} → at + pairSize ≤ structure → Zeros d at (at + pairSize) → Reservation d structure at
-  pair : {at : ℕ} → (Zeros d at (at + pairSize) → ⊥) → Reservation d structure (at + pairSize) → Reservation d structure at
+  last : {at : ℕ} → at + pair_size ≤ structure → Zeros d at (at + pair_size) → Reservation d structure at
+  pair : {at : ℕ} → (Zeros d at (at + pair_size) → ⊥) → Reservation d structure (at + pair_size) → Reservation d structure at

@@ -4,11 +4,11 @@ use Rattle.std.specs.Prelude.{◌≡◌, ℕ, suc, ◌+◌, ◌*◌, ◌/◌, �
 use Rattle.devicetree.specs.Header.{cell, Zeros}
 
 -- the numbers of the Devicetree Specification's tokens
-abbrev pub beginNode : ℕ
-beginNode = 1
+abbrev pub begin_node : ℕ
+begin_node = 1
 
-abbrev pub endNode : ℕ
-endNode = 2
+abbrev pub end_node : ℕ
+end_node = 2
 
 abbrev pub prop : ℕ
 prop = 3
@@ -71,6 +71,6 @@ mutual
   pub data Members (s t : List ℕ) : Bool → ℕ → ℕ → ℕ → Type 0 where
     property : {p : Bool} {depth at a m n : ℕ} → p ≡ true → Token s prop at a → Property s t a m → Members s t p depth m n
         → Members s t p depth at n
-    subnode : {p : Bool} {depth at a m n : ℕ} → Token s beginNode at a → Node s t depth a m → Members s t false depth m n
+    subnode : {p : Bool} {depth at a m n : ℕ} → Token s begin_node at a → Node s t depth a m → Members s t false depth m n
         → Members s t p depth at n
-    close : {p : Bool} {depth at n : ℕ} → Token s endNode at n → Members s t p depth at n
+    close : {p : Bool} {depth at n : ℕ} → Token s end_node at n → Members s t p depth at n

@@ -1,6 +1,6 @@
 // Numbers and zero bytes in the data.
 ghost use Rattle.std.specs.Prelude.{◌≡◌, ◌+◌, ◌≤◌, ◌<◌, length};
-ghost use Rattle.devicetree.specs.Header.{cell as cellRule, Zeros};
+ghost use Rattle.devicetree.specs.Header.{cell as cell_rule, Zeros};
 ghost use Rattle.devicetree.specs.Structure.{Ends};
 ghost use Rattle.devicetree.specs.Decided.{Answers, Decides};
 
@@ -21,7 +21,7 @@ fn wide(x: u8) -> u32
 // The big-endian number of the four bytes from at on.
 pub fn cell(d: &[u8], at: usize) -> u32
     requires { at + 4 ≤ length d.now }
-    ensures { result ≡ cellRule d.now at }
+    ensures { result ≡ cell_rule d.now at }
 {
     let b = at + 1;
     let c = at + 2;

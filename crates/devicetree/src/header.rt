@@ -1,15 +1,15 @@
 // The header's fields and rules, and the reservation block.
 ghost use Rattle.std.specs.Prelude.{◌≡◌, ◌≤◌, true, length};
 ghost use Rattle.devicetree.specs.Header.{
-  headerOf,
-  headerSize,
-  identified as identifiedRule,
-  ordered as orderedRule,
-  aligned as alignedRule,
-  headed as headedRule,
+  header_of,
+  header_size,
+  identified as identified_rule,
+  ordered as ordered_rule,
+  aligned as aligned_rule,
+  headed as headed_rule,
   Reservation,
 };
-ghost use Rattle.devicetree.specs.Tree.{structureOf, stringsOf};
+ghost use Rattle.devicetree.specs.Tree.{structure_of, strings_of};
 ghost use Rattle.devicetree.specs.Decided.{Answers};
 
 use crate::bytes;
@@ -39,8 +39,8 @@ impl Header {
 
     // The header that d starts with.
     pub fn read(d: &[u8]) -> Header
-        requires { headerSize ≤ length d.now }
-        ensures { result ≡ headerOf d.now }
+        requires { header_size ≤ length d.now }
+        ensures { result ≡ header_of d.now }
     {
         Header {
             magic: bytes::cell(d, 0),
@@ -57,7 +57,7 @@ impl Header {
 
     // The magic number and both version numbers.
     fn identified(self) -> bool
-        ensures { result ≡ identifiedRule self }
+        ensures { result ≡ identified_rule self }
     {
         (self.magic == Header::MAGIC)
             & (self.version == Header::VERSION)
@@ -66,7 +66,7 @@ impl Header {
 
     // The blocks' order, within totalsize, and that within the data's length.
     fn ordered(self, len: usize) -> bool
-        ensures { result ≡ orderedRule self len }
+        ensures { result ≡ ordered_rule self len }
     {
         let structure = self.off_dt_struct as usize;
         let strings = self.off_dt_strings as usize;
@@ -79,7 +79,7 @@ impl Header {
 
     // The multiples.
     fn aligned(self) -> bool
-        ensures { result ≡ alignedRule self }
+        ensures { result ≡ aligned_rule self }
     {
         (self.off_mem_rsvmap % 8 == 0)
             & (self.off_dt_struct % 4 == 0)
@@ -88,15 +88,15 @@ impl Header {
 
     // What the header has to keep, in data of so many bytes.
     pub(crate) fn headed(self, len: usize) -> bool
-        ensures { result ≡ headedRule self len }
+        ensures { result ≡ headed_rule self len }
     {
         self.identified() & self.ordered(len) & self.aligned()
     }
 
     // The data up to the structure block's end.
     pub fn structure(self, d: &[u8]) -> &[u8]
-        requires { headedRule self (length d.now) ≡ true }
-        ensures { result.now ≡ structureOf d.now self }
+        requires { headed_rule self (length d.now) ≡ true }
+        ensures { result.now ≡ structure_of d.now self }
     {
         let at = self.off_dt_struct as usize;
         let end = at + self.size_dt_struct as usize;
@@ -105,8 +105,8 @@ impl Header {
 
     // The strings block.
     pub fn strings(self, d: &[u8]) -> &[u8]
-        requires { headedRule self (length d.now) ≡ true }
-        ensures { result.now ≡ stringsOf d.now self }
+        requires { headed_rule self (length d.now) ≡ true }
+        ensures { result.now ≡ strings_of d.now self }
     {
         let from = self.off_dt_strings as usize;
         let to = from + self.size_dt_strings as usize;

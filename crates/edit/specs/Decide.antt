@@ -5,21 +5,21 @@ use Rattle.rules.specs.declared.Header.{Header}
 use Rattle.rules.specs.declared.Entry.{Entry}
 use Rattle.rules.specs.declared.Refusal.TheVariants.{Room}
 use Rattle.rules.specs.Area.{align8}
-use Rattle.rules.specs.Header.{headerOf}
-use Rattle.rules.specs.Entries.{entriesOf, occurrence}
+use Rattle.rules.specs.Header.{header_of}
+use Rattle.rules.specs.Entries.{entries_of, occurrence}
 use Rattle.rules.specs.Checksum.{seal}
 use Rattle.rules.specs.Outcome.{Outcome, refused, done}
-use Rattle.rules.specs.Add.{entryBytes, room, remainder, takenVoid, addAt}
-use Rattle.rules.specs.Edit.{Edit, toAdd, toAddAligned, toVoid, toRelocate, toTidy, toScrub, run}
+use Rattle.rules.specs.Add.{entry_bytes, room, remainder, taken_void, add_at}
+use Rattle.rules.specs.Edit.{Edit, to_add, to_add_aligned, to_void, to_relocate, to_tidy, to_scrub, run}
 use Rattle.laws.proofs.Patch.{edited}
 use Rattle.plan.specs.declared.Plan.{Plan}
 use Rattle.plan.specs.declared.Planned.{Planned}
 use Rattle.plan.specs.declared.Planned.TheVariants.{Go, Refused}
-use Rattle.plan.specs.Plan.{wholeVoid, withChecksum}
+use Rattle.plan.specs.Plan.{whole_void, with_checksum}
 
 -- the entry in the place of a void; what is left of the void follows as a void of its own
-abbrev pub planInVoid : Header → Entry → ℕ → ℕ → Plan
-planInVoid h e tag n =
+abbrev pub plan_in_void : Header → Entry → ℕ → ℕ → Plan
+plan_in_void h e tag n =
     record {
       value = e.at + 8;
       checksum = 0;
@@ -34,8 +34,8 @@ planInVoid h e tag n =
     }
 
 -- the entry at used_size, behind a padding void of so many bytes
-abbrev pub planAtEnd : Header → ℕ → ℕ → ℕ → ℕ → Plan
-planAtEnd h padding alignment tag n =
+abbrev pub plan_at_end : Header → ℕ → ℕ → ℕ → ℕ → Plan
+plan_at_end h padding alignment tag n =
     record {
       value = h.used_size + padding + 8;
       checksum = 0;
@@ -50,8 +50,8 @@ planAtEnd h padding alignment tag n =
     }
 
 -- a void in the place of an entry
-abbrev pub planVoid : Header → Entry → Plan
-planVoid h e =
+abbrev pub plan_void : Header → Entry → Plan
+plan_void h e =
     record {
       value = e.at;
       checksum = 0;
@@ -66,78 +66,78 @@ planVoid h e =
     }
 
 -- the bytes of the padding void that brings the data to a multiple of 2^exponent; 0 where none is needed
-unfoldable pub paddingFor : ℕ → ℕ → ℕ → ℕ
-paddingFor base used exponent =
+unfoldable pub padding_for : ℕ → ℕ → ℕ → ℕ
+padding_for base used exponent =
     cond (eqb ((base + used + 8) % 2 ^ exponent) 0) 0 (2 ^ exponent - (base + used + 8) % 2 ^ exponent)
 
 -- an entry at used_size behind a padding void, with a new alignment: what both adds come to there
-unfoldable pub endOutcome : List ℕ → ℕ → ℕ → ℕ → List ℕ → Outcome
-endOutcome a padding alignment tag content =
+unfoldable pub end_outcome : List ℕ → ℕ → ℕ → ℕ → List ℕ → Outcome
+end_outcome a padding alignment tag content =
     cond (ltb (room a) (padding + 8 + align8 (length content))) (refused Room)
-    (done ((headerOf a).used_size + padding + 8)
+    (done ((header_of a).used_size + padding + 8)
     (seal
-    (edited a alignment ((headerOf a).used_size + padding + 8 + align8 (length content)) (headerOf a).used_size
-    (wholeVoid padding ++ entryBytes tag content))))
+    (edited a alignment ((header_of a).used_size + padding + 8 + align8 (length content)) (header_of a).used_size
+    (whole_void padding ++ entry_bytes tag content))))
 
 -- where an add goes, if voids may be used
-abbrev pub addPlace : List ℕ → ℕ → List ℕ → Bool → Outcome
-addPlace a tag content useVoids = addAt a tag content (takenVoid useVoids (length content) a)
+abbrev pub add_place : List ℕ → ℕ → List ℕ → Bool → Outcome
+add_place a tag content use_voids = add_at a tag content (taken_void use_voids (length content) a)
 
 -- ---- the plan of each edit, its checksum still 0; where the edit is refused, none is asked for
 
 -- of an add: in the void that it takes, else at used_size
-abbrev pub addPlan : List ℕ → ℕ → ℕ → Option Entry → Plan
-addPlan a tag n (some e) = planInVoid (headerOf a) e tag n
-addPlan a tag n none = planAtEnd (headerOf a) 0 (headerOf a).alignment tag n
+abbrev pub add_plan : List ℕ → ℕ → ℕ → Option Entry → Plan
+add_plan a tag n (some e) = plan_in_void (header_of a) e tag n
+add_plan a tag n none = plan_at_end (header_of a) 0 (header_of a).alignment tag n
 
 -- of an aligned add
-abbrev pub addAlignedPlan : List ℕ → ℕ → ℕ → ℕ → ℕ → Plan
-addAlignedPlan a base tag n exponent =
-    planAtEnd (headerOf a) (paddingFor base (headerOf a).used_size exponent) (max (headerOf a).alignment exponent) tag n
+abbrev pub add_aligned_plan : List ℕ → ℕ → ℕ → ℕ → ℕ → Plan
+add_aligned_plan a base tag n exponent =
+    plan_at_end (header_of a) (padding_for base (header_of a).used_size exponent) (max (header_of a).alignment exponent) tag n
 
 -- of a void: in the place of the entry
-abbrev pub voidPlan : List ℕ → Option Entry → Plan
-voidPlan a (some e) = planVoid (headerOf a) e
-voidPlan a none = planAtEnd (headerOf a) 0 0 0 0
+abbrev pub void_plan : List ℕ → Option Entry → Plan
+void_plan a (some e) = plan_void (header_of a) e
+void_plan a none = plan_at_end (header_of a) 0 0 0 0
 
 -- what an edit that comes to o has decided, with its plan
-abbrev pub plannedBy : List ℕ → List ℕ → Outcome → Plan → Planned
-plannedBy a content (refused r) p = Refused r
-plannedBy a content (done value bytes) p = Go (withChecksum a content p)
+abbrev pub planned_by : List ℕ → List ℕ → Outcome → Plan → Planned
+planned_by a content (refused r) p = Refused r
+planned_by a content (done value bytes) p = Go (with_checksum a content p)
 
 -- what both adds have decided at used_size, and an add at its place
-abbrev pub plannedAtEnd : Header → List ℕ → ℕ → ℕ → ℕ → List ℕ → Planned
-plannedAtEnd h a padding alignment tag content =
-    plannedBy a content (endOutcome a padding alignment tag content) (planAtEnd h padding alignment tag (length content))
+abbrev pub planned_at_end : Header → List ℕ → ℕ → ℕ → ℕ → List ℕ → Planned
+planned_at_end h a padding alignment tag content =
+    planned_by a content (end_outcome a padding alignment tag content) (plan_at_end h padding alignment tag (length content))
 
-abbrev pub plannedPlace : List ℕ → ℕ → List ℕ → Bool → Planned
-plannedPlace a tag content useVoids =
-    plannedBy a content (addPlace a tag content useVoids) (addPlan a tag (length content) (takenVoid useVoids (length content) a))
+abbrev pub planned_place : List ℕ → ℕ → List ℕ → Bool → Planned
+planned_place a tag content use_voids =
+    planned_by a content (add_place a tag content use_voids) (add_plan a tag (length content) (taken_void use_voids (length content) a))
 
 -- ---- of each edit that is planned; relocate, tidy and scrub are not, and nothing is asked of them here
 
 -- its data
-abbrev pub contentOf : Edit → List ℕ
-contentOf (toAdd tag content useVoids) = content
-contentOf (toAddAligned tag content exponent) = content
-contentOf (toVoid tag n) = []
-contentOf (toRelocate target targetBase) = []
-contentOf toTidy = []
-contentOf toScrub = []
+abbrev pub content_of : Edit → List ℕ
+content_of (to_add tag content use_voids) = content
+content_of (to_add_aligned tag content exponent) = content
+content_of (to_void tag n) = []
+content_of (to_relocate target target_base) = []
+content_of to_tidy = []
+content_of to_scrub = []
 
 -- its plan, the checksum still 0
-abbrev pub bareFor : Edit → List ℕ → ℕ → Plan
-bareFor (toAdd tag content useVoids) a base = addPlan a tag (length content) (takenVoid useVoids (length content) a)
-bareFor (toAddAligned tag content exponent) a base = addAlignedPlan a base tag (length content) exponent
-bareFor (toVoid tag n) a base = voidPlan a (occurrence tag n (entriesOf a))
-bareFor (toRelocate target targetBase) a base = voidPlan a none
-bareFor toTidy a base = voidPlan a none
-bareFor toScrub a base = voidPlan a none
+abbrev pub bare_for : Edit → List ℕ → ℕ → Plan
+bare_for (to_add tag content use_voids) a base = add_plan a tag (length content) (taken_void use_voids (length content) a)
+bare_for (to_add_aligned tag content exponent) a base = add_aligned_plan a base tag (length content) exponent
+bare_for (to_void tag n) a base = void_plan a (occurrence tag n (entries_of a))
+bare_for (to_relocate target target_base) a base = void_plan a none
+bare_for to_tidy a base = void_plan a none
+bare_for to_scrub a base = void_plan a none
 
 -- and with it
-abbrev pub planFor : Edit → List ℕ → ℕ → Plan
-planFor e a base = withChecksum a (contentOf e) (bareFor e a base)
+abbrev pub plan_for : Edit → List ℕ → ℕ → Plan
+plan_for e a base = with_checksum a (content_of e) (bare_for e a base)
 
 -- and what it has decided
-abbrev pub plannedFor : Edit → List ℕ → ℕ → Planned
-plannedFor e a base = plannedBy a (contentOf e) (run e a base) (bareFor e a base)
+abbrev pub planned_for : Edit → List ℕ → ℕ → Planned
+planned_for e a base = planned_by a (content_of e) (run e a base) (bare_for e a base)

@@ -1,15 +1,15 @@
 // What each edit will do, reading only: refused, or a plan.
 ghost use Rattle.std.specs.Prelude.{◌≡◌, [], ◌+◌, ◌≤◌, ◌<◌, ◌^◌, max, length};
-ghost use Rattle.rules.specs.Area.{align8 as align8Rule};
-ghost use Rattle.rules.specs.Entries.{entriesOf};
-ghost use Rattle.rules.specs.Refusals.{refusesAlign};
-ghost use Rattle.rules.specs.Add.{firstFit};
-ghost use Rattle.rules.specs.Edit.{run, toAdd, toAddAligned, toVoid};
+ghost use Rattle.rules.specs.Area.{align8 as align8_rule};
+ghost use Rattle.rules.specs.Entries.{entries_of};
+ghost use Rattle.rules.specs.Refusals.{refuses_align};
+ghost use Rattle.rules.specs.Add.{first_fit};
+ghost use Rattle.rules.specs.Edit.{run, to_add, to_add_aligned, to_void};
 ghost use Rattle.laws.proofs.Check.{Admitted};
 ghost use Rattle.walk.specs.Wanted.{sought};
-ghost use Rattle.plan.specs.Plan.{voidSpan, Decides};
-ghost use Rattle.edit.specs.Decide.{planInVoid, planAtEnd, planVoid, paddingFor, endOutcome, addPlace};
-ghost use Rattle.edit.specs.Decide.{plannedAtEnd, plannedPlace, plannedFor};
+ghost use Rattle.plan.specs.Plan.{void_span, Decides};
+ghost use Rattle.edit.specs.Decide.{plan_in_void, plan_at_end, plan_void, padding_for, end_outcome, add_place};
+ghost use Rattle.edit.specs.Decide.{planned_at_end, planned_place, planned_for};
 
 use plan::{Plan, Planned, sum};
 use rules::{Entry, Header, Refusal};
@@ -18,8 +18,8 @@ use walk::wanted::{Sought, Wanted};
 
 // The entry in the place of the void e; what is left of the void follows as a void of its own.
 fn in_void(h: Header, e: Entry, tag: u32, n: usize) -> Plan
-    requires { (align8Rule n ≤ e.data_size) × (e.at < 2 ^ 31) }
-    ensures { result ≡ planInVoid h e tag n }
+    requires { (align8_rule n ≤ e.data_size) × (e.at < 2 ^ 31) }
+    ensures { result ≡ plan_in_void h e tag n }
 {
     Plan {
         value: (e.at + 8) as u32,
@@ -37,8 +37,8 @@ fn in_void(h: Header, e: Entry, tag: u32, n: usize) -> Plan
 
 // The entry at used_size, behind a padding void of so many bytes.
 fn at_end(h: Header, padding: usize, alignment: u8, tag: u32, n: usize) -> Plan
-    requires { h.used_size + padding + 8 + align8Rule n < 2 ^ 32 }
-    ensures { result ≡ planAtEnd h padding alignment tag n }
+    requires { h.used_size + padding + 8 + align8_rule n < 2 ^ 32 }
+    ensures { result ≡ plan_at_end h padding alignment tag n }
 {
     let used = h.used_size as usize;
     Plan {
@@ -57,8 +57,8 @@ fn at_end(h: Header, padding: usize, alignment: u8, tag: u32, n: usize) -> Plan
 
 // A void in the place of the entry e.
 fn void_plan(h: Header, e: Entry) -> Plan
-    requires { (e.at < 2 ^ 32) × (align8Rule e.data_size < 2 ^ 32) }
-    ensures { result ≡ planVoid h e }
+    requires { (e.at < 2 ^ 32) × (align8_rule e.data_size < 2 ^ 32) }
+    ensures { result ≡ plan_void h e }
 {
     Plan {
         value: e.at as u32,
@@ -84,9 +84,9 @@ fn decide_end(
     tag: u32,
     data: &[u8],
 ) -> Planned
-    requires { Admitted area.now base h × (padding ≡ voidSpan padding) × (padding < 2 ^ 31) × (tag < 2 ^ 24) }
-    ensures decides { Decides area.now «data».now (endOutcome area.now padding alignment tag «data».now) result }
-    ensures value { result ≡ plannedAtEnd h area.now padding alignment tag «data».now }
+    requires { Admitted area.now base h × (padding ≡ void_span padding) × (padding < 2 ^ 31) × (tag < 2 ^ 24) }
+    ensures decides { Decides area.now «data».now (end_outcome area.now padding alignment tag «data».now) result }
+    ensures value { result ≡ planned_at_end h area.now padding alignment tag «data».now }
 {
     let n = data.len();
     let room = h.total_size as usize - h.used_size as usize;
@@ -106,9 +106,9 @@ fn decide_place(
     data: &[u8],
     use_voids: bool,
 ) -> Planned
-    requires { Admitted area.now base h × (fit ≡ sought (firstFit (length «data».now) (entriesOf area.now))) × (tag < 2 ^ 24) }
-    ensures decides { Decides area.now «data».now (addPlace area.now tag «data».now use_voids) result }
-    ensures value { result ≡ plannedPlace area.now tag «data».now use_voids }
+    requires { Admitted area.now base h × (fit ≡ sought (first_fit (length «data».now) (entries_of area.now))) × (tag < 2 ^ 24) }
+    ensures decides { Decides area.now «data».now (add_place area.now tag «data».now use_voids) result }
+    ensures value { result ≡ planned_place area.now tag «data».now use_voids }
 {
     if !use_voids {
         return decide_end(area, base, h, 0, h.alignment, tag, data);
@@ -121,8 +121,8 @@ fn decide_place(
 
 // Add: checks 1 to 8 and 15, then 9, 10 and 14. The walk of the check remembers the first void that fits.
 pub fn decide_add(area: &[u8], base: u64, tag: u32, data: &[u8], use_voids: bool) -> Planned
-    ensures decides { Decides area.now «data».now (run (toAdd tag «data».now use_voids) area.now base) result }
-    ensures value { result ≡ plannedFor (toAdd tag «data».now use_voids) area.now base }
+    ensures decides { Decides area.now «data».now (run (to_add tag «data».now use_voids) area.now base) result }
+    ensures value { result ≡ planned_for (to_add tag «data».now use_voids) area.now base }
 {
     let n = data.len();
     let surveyed = clean::admit(
@@ -149,7 +149,7 @@ pub fn decide_add(area: &[u8], base: u64, tag: u32, data: &[u8], use_voids: bool
 // The bytes of the padding void that brings the data to a multiple of 2^exponent: 0 where none is needed.
 fn padding_for(base: u64, used: u32, exponent: u32) -> usize
     requires { (base < 2 ^ 63) × (exponent < 32) }
-    ensures { result ≡ paddingFor base used exponent }
+    ensures { result ≡ padding_for base used exponent }
 {
     let m = 1u64 << exponent;
     let p = (base + used as u64 + 8) % m;
@@ -161,7 +161,7 @@ fn padding_for(base: u64, used: u32, exponent: u32) -> usize
 
 // Refusal 11.
 fn refuses_align(exponent: u32) -> bool
-    ensures { result ≡ refusesAlign exponent }
+    ensures { result ≡ refuses_align exponent }
 {
     (exponent < Header::ALIGNMENT as u32) | ((rules::MAX_ALIGNMENT as u32) < exponent)
 }
@@ -179,8 +179,8 @@ fn larger(alignment: u8, exponent: u32) -> u8
 
 // Add aligned: checks 1 to 8 and 15, then 9, 10, 11 and 14.
 pub fn decide_add_aligned(area: &[u8], base: u64, tag: u32, data: &[u8], exponent: u32) -> Planned
-    ensures decides { Decides area.now «data».now (run (toAddAligned tag «data».now exponent) area.now base) result }
-    ensures value { result ≡ plannedFor (toAddAligned tag «data».now exponent) area.now base }
+    ensures decides { Decides area.now «data».now (run (to_add_aligned tag «data».now exponent) area.now base) result }
+    ensures value { result ≡ planned_for (to_add_aligned tag «data».now exponent) area.now base }
 {
     let surveyed = clean::admit(area, base, Wanted::nothing());
     let Surveyed::Accepted(_, h, _) = surveyed else {
@@ -208,8 +208,8 @@ pub fn decide_add_aligned(area: &[u8], base: u64, tag: u32, data: &[u8], exponen
 
 // Void: checks 1 to 8 and 15, then 9 and 13. The walk of the check remembers the entry.
 pub fn decide_void(area: &[u8], base: u64, tag: u32, n: u64) -> Planned
-    ensures decides { Decides area.now [] (run (toVoid tag n) area.now base) result }
-    ensures value { result ≡ plannedFor (toVoid tag n) area.now base }
+    ensures decides { Decides area.now [] (run (to_void tag n) area.now base) result }
+    ensures value { result ≡ planned_for (to_void tag n) area.now base }
 {
     let surveyed = clean::admit(area, base, Wanted { tag, least: 0, n });
     let Surveyed::Accepted(_, h, found) = surveyed else {

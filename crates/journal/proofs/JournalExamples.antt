@@ -6,7 +6,7 @@ use mathlib.Core.Option.{Option, none, some}
 use mathlib.Core.List.{List, [], ◌∷◌, ◌++◌}
 use lib.ListN.{drop, replicate}
 use Rattle.wire.specs.Bytes.{field, le_bytes}
-use Rattle.journal.specs.Journal.{Store, inJournal, in_area, memory, storeAll, wordsFrom, changedWords, editStores, commitStore, refusesJournal, recovery}
+use Rattle.journal.specs.Journal.{Store, in_journal, in_area, memory, store_all, words_from, changed_words, edit_stores, commit_store, refuses_journal, recovery}
 
 -- ---- bytes
 
@@ -28,12 +28,12 @@ abbrev zeros : List ℕ
 zeros = replicate 8 0
 
 -- two records and a byte behind them
-abbrev journalOf : List ℕ → List ℕ → List ℕ
-journalOf first second = first ++ (second ++ (7 ∷ []))
+abbrev journal_of : List ℕ → List ℕ → List ℕ
+journal_of first second = first ++ (second ++ (7 ∷ []))
 
 -- an empty journal in which old bytes stand
 abbrev empty : List ℕ
-empty = journalOf (0 ∷ replicate 15 9) (0 ∷ replicate 15 9)
+empty = journal_of (0 ∷ replicate 15 9) (0 ∷ replicate 15 9)
 
 -- what a recovery of the old area with this journal stores
 abbrev recovers : List ℕ → Option (List Store)
@@ -44,12 +44,12 @@ recovers j = recovery (memory j old)
 -- "each record's bytes 1 to 15 rising and its kind last", the words applied, "every byte stored, rising, changed or not", the kinds cleared
 abbrev stores : List Store
 stores =
-    inJournal 1 0 ∷ inJournal 2 0 ∷ inJournal 3 0 ∷ inJournal 4 8 ∷ inJournal 5 0 ∷ inJournal 6 0 ∷ inJournal 7 0 ∷ inJournal 8 255 ∷ inJournal 9 1
-    ∷ inJournal 10 255 ∷ inJournal 11 255 ∷ inJournal 12 255 ∷ inJournal 13 255 ∷ inJournal 14 255 ∷ inJournal 15 2 ∷ inJournal 0 1
-    ∷ inJournal 17 0 ∷ inJournal 18 0 ∷ inJournal 19 0 ∷ inJournal 20 0 ∷ inJournal 21 0 ∷ inJournal 22 0 ∷ inJournal 23 0 ∷ inJournal 24 0
-    ∷ inJournal 25 0 ∷ inJournal 26 0 ∷ inJournal 27 0 ∷ inJournal 28 0 ∷ inJournal 29 0 ∷ inJournal 30 0 ∷ inJournal 31 0 ∷ inJournal 16 2
+    in_journal 1 0 ∷ in_journal 2 0 ∷ in_journal 3 0 ∷ in_journal 4 8 ∷ in_journal 5 0 ∷ in_journal 6 0 ∷ in_journal 7 0 ∷ in_journal 8 255 ∷ in_journal 9 1
+    ∷ in_journal 10 255 ∷ in_journal 11 255 ∷ in_journal 12 255 ∷ in_journal 13 255 ∷ in_journal 14 255 ∷ in_journal 15 2 ∷ in_journal 0 1
+    ∷ in_journal 17 0 ∷ in_journal 18 0 ∷ in_journal 19 0 ∷ in_journal 20 0 ∷ in_journal 21 0 ∷ in_journal 22 0 ∷ in_journal 23 0 ∷ in_journal 24 0
+    ∷ in_journal 25 0 ∷ in_journal 26 0 ∷ in_journal 27 0 ∷ in_journal 28 0 ∷ in_journal 29 0 ∷ in_journal 30 0 ∷ in_journal 31 0 ∷ in_journal 16 2
     ∷ in_area 8 255 ∷ in_area 9 1 ∷ in_area 10 255 ∷ in_area 11 255 ∷ in_area 12 255 ∷ in_area 13 255 ∷ in_area 14 255 ∷ in_area 15 2
-    ∷ inJournal 0 0 ∷ inJournal 16 0 ∷ []
+    ∷ in_journal 0 0 ∷ in_journal 16 0 ∷ []
 
 -- eight bytes stored from the area's first on
 abbrev applied : List Store
@@ -58,34 +58,34 @@ applied =
 
 -- the clearing alone
 abbrev cleared : List Store
-cleared = inJournal 0 0 ∷ inJournal 16 0 ∷ []
+cleared = in_journal 0 0 ∷ in_journal 16 0 ∷ []
 
 pub record JournalExamples : Type 0 where
   -- the stores of the edit, and the number of the one with the commit's kind
-  pub edit : editStores empty old new ≡ stores
-  pub commit : commitStore old new ≡ 32
+  pub edit : edit_stores empty old new ≡ stores
+  pub commit : commit_store old new ≡ 32
   -- after all of them: the new area; records that keep their bytes, and the odd byte
-  pub after : storeAll stores (memory empty old) ≡ memory (journalOf (row 0 8 eight) (row 0 0 zeros)) new
+  pub after : store_all stores (memory empty old) ≡ memory (journal_of (row 0 8 eight) (row 0 0 zeros)) new
   -- 16: not with an empty journal of two records; with one record; with a kind that is not 0 in a record behind those that the edit uses
-  pub accepted : refusesJournal empty old new ≡ false
-  pub short : refusesJournal (replicate 31 0) old new ≡ true
-  pub kind : refusesJournal (replicate 32 0 ++ row 1 0 zeros) old new ≡ true
+  pub accepted : refuses_journal empty old new ≡ false
+  pub short : refuses_journal (replicate 31 0) old new ≡ true
+  pub kind : refuses_journal (replicate 32 0 ++ row 1 0 zeros) old new ≡ true
   -- recovery: a word and a commit; the word alone; the commit first; nothing
-  pub committed : recovers (journalOf (row 1 8 eight) (row 2 0 zeros)) ≡ some (drop 32 stores)
-  pub uncommitted : recovers (journalOf (row 1 8 eight) (row 0 0 zeros)) ≡ some cleared
-  pub behind : recovers (journalOf (row 2 0 zeros) (row 1 8 eight)) ≡ some cleared
+  pub committed : recovers (journal_of (row 1 8 eight) (row 2 0 zeros)) ≡ some (drop 32 stores)
+  pub uncommitted : recovers (journal_of (row 1 8 eight) (row 0 0 zeros)) ≡ some cleared
+  pub behind : recovers (journal_of (row 2 0 zeros) (row 1 8 eight)) ≡ some cleared
   pub nothing : recovers empty ≡ some cleared
   -- 17: a kind of 3, behind the commit too; an offset of 4; one of 16, since 24 exceeds 20; not if the word would not be applied
-  pub three : recovers (journalOf (row 2 0 zeros) (row 3 0 zeros)) ≡ none
-  pub odd : recovers (journalOf (row 1 4 eight) (row 2 0 zeros)) ≡ none
-  pub far : recovers (journalOf (row 1 16 eight) (row 2 0 zeros)) ≡ none
-  pub unread : recovers (journalOf (row 1 16 eight) (row 0 0 zeros)) ≡ some cleared
+  pub three : recovers (journal_of (row 2 0 zeros) (row 3 0 zeros)) ≡ none
+  pub odd : recovers (journal_of (row 1 4 eight) (row 2 0 zeros)) ≡ none
+  pub far : recovers (journal_of (row 1 16 eight) (row 2 0 zeros)) ≡ none
+  pub unread : recovers (journal_of (row 1 16 eight) (row 0 0 zeros)) ≡ some cleared
   -- a word that ends where the area ends
-  pub last : recovery (memory (journalOf (row 1 0 eight) (row 2 0 zeros)) (replicate 8 255)) ≡ some (applied ++ cleared)
+  pub last : recovery (memory (journal_of (row 1 0 eight) (row 2 0 zeros)) (replicate 8 255)) ≡ some (applied ++ cleared)
 
-pub journal-examples : JournalExamples
-unfolding field le_bytes wordsFrom changedWords editStores refusesJournal recovery
-journal-examples =
+pub journal_examples : JournalExamples
+unfolding field le_bytes words_from changed_words edit_stores refuses_journal recovery
+journal_examples =
     record {
       edit = refl;
       commit = refl;

@@ -8,12 +8,12 @@ use mathlib.Core.List.{List, [], ◌∷◌, ◌++◌}
 use lib.ListN.{length, take, set, length-set}
 use lib.Seq.{set-set, set_comm, sets}
 use Rattle.wire.specs.Bytes.{splice}
-use Rattle.wire.proofs.Splice.{splice-sets}
-use Rattle.journal.specs.Journal.{Store, inJournal, in_area, Memory, memory, store, storeAll, rising, records}
+use Rattle.wire.proofs.Splice.{splice_sets}
+use Rattle.journal.specs.Journal.{Store, in_journal, in_area, Memory, memory, store, store_all, rising, records}
 
 -- ---- one list of stores behind another
 
-pub stores-append : (s t : List Store) (m : Memory) → storeAll (s ++ t) m ≡ storeAll t (storeAll s m)
+pub stores-append : (s t : List Store) (m : Memory) → store_all (s ++ t) m ≡ store_all t (store_all s m)
 stores-append [] t m = refl
 stores-append (x ∷ s) t m = stores-append s t (store x m)
 
@@ -35,23 +35,23 @@ front {A} (suc k) (x ∷ s) t = go (front k s t)
 -- ---- lengths
 
 store-journal : (s : Store) (m : Memory) → length (store s m).journal ≡ length m.journal
-store-journal (inJournal i v) m = length-set m.journal i v
+store-journal (in_journal i v) m = length-set m.journal i v
 store-journal (in_area i v) m = refl
 
 store-area : (s : Store) (m : Memory) → length (store s m).area ≡ length m.area
-store-area (inJournal i v) m = refl
+store-area (in_journal i v) m = refl
 store-area (in_area i v) m = length-set m.area i v
 
-pub length-journal : (ss : List Store) (m : Memory) → length (storeAll ss m).journal ≡ length m.journal
+pub length-journal : (ss : List Store) (m : Memory) → length (store_all ss m).journal ≡ length m.journal
 length-journal [] m = refl
 length-journal (s ∷ ss) m = length-journal ss (store s m) ∙ store-journal s m
 
-pub length-area : (ss : List Store) (m : Memory) → length (storeAll ss m).area ≡ length m.area
+pub length-area : (ss : List Store) (m : Memory) → length (store_all ss m).area ≡ length m.area
 length-area [] m = refl
 length-area (s ∷ ss) m = length-area ss (store s m) ∙ store-area s m
 
-pub same-records : (ss : List Store) (m : Memory) → records (storeAll ss m).journal ≡ records m.journal
-same-records ss m = ap (λ (n : ℕ). n / 16) (length-journal ss m)
+pub same_records : (ss : List Store) (m : Memory) → records (store_all ss m).journal ≡ records m.journal
+same_records ss m = ap (λ (n : ℕ). n / 16) (length-journal ss m)
 
 pub length-rising : (to : ℕ → ℕ → Store) (at : ℕ) (bs : List ℕ) → length (rising to at bs) ≡ length bs
 length-rising to at [] = refl
@@ -73,91 +73,91 @@ all_append P [] t h g = g
 all_append P (x ∷ s) t h g = (h.0, all_append P s t h.1 g)
 
 abbrev pub IsArea : Store → Type 0
-IsArea (inJournal i v) = ⊥
+IsArea (in_journal i v) = ⊥
 IsArea (in_area i v) = Unit {0}
 
 abbrev pub IsJournal : Store → Type 0
-IsJournal (inJournal i v) = Unit {0}
+IsJournal (in_journal i v) = Unit {0}
 IsJournal (in_area i v) = ⊥
 
 -- stores in the one buffer leave the other
-pub journal-kept : (ss : List Store) (m : Memory) → All IsArea ss → (storeAll ss m).journal ≡ m.journal
-journal-kept [] m h = refl
-journal-kept (inJournal i v ∷ ss) m h = absurd h.0
-journal-kept (in_area i v ∷ ss) m h = journal-kept ss (store (in_area i v) m) h.1
+pub journal_kept : (ss : List Store) (m : Memory) → All IsArea ss → (store_all ss m).journal ≡ m.journal
+journal_kept [] m h = refl
+journal_kept (in_journal i v ∷ ss) m h = absurd h.0
+journal_kept (in_area i v ∷ ss) m h = journal_kept ss (store (in_area i v) m) h.1
 
-pub area-kept : (ss : List Store) (m : Memory) → All IsJournal ss → (storeAll ss m).area ≡ m.area
-area-kept [] m h = refl
-area-kept (inJournal i v ∷ ss) m h = area-kept ss (store (inJournal i v) m) h.1
-area-kept (in_area i v ∷ ss) m h = absurd h.0
+pub area_kept : (ss : List Store) (m : Memory) → All IsJournal ss → (store_all ss m).area ≡ m.area
+area_kept [] m h = refl
+area_kept (in_journal i v ∷ ss) m h = area_kept ss (store (in_journal i v) m) h.1
+area_kept (in_area i v ∷ ss) m h = absurd h.0
 
 pub rising-area : (at : ℕ) (bs : List ℕ) → All IsArea (rising in_area at bs)
 rising-area at [] = tt
 rising-area at (b ∷ bs) = (tt, rising-area (at + 1) bs)
 
-pub rising-journal : (at : ℕ) (bs : List ℕ) → All IsJournal (rising inJournal at bs)
+pub rising-journal : (at : ℕ) (bs : List ℕ) → All IsJournal (rising in_journal at bs)
 rising-journal at [] = tt
 rising-journal at (b ∷ bs) = (tt, rising-journal (at + 1) bs)
 
 -- the area afterwards depends on the area alone
-pub area_same : (ss : List Store) (m n : Memory) → m.area ≡ n.area → (storeAll ss m).area ≡ (storeAll ss n).area
+pub area_same : (ss : List Store) (m n : Memory) → m.area ≡ n.area → (store_all ss m).area ≡ (store_all ss n).area
 area_same [] m n e = e
-area_same (inJournal i v ∷ ss) m n e = area_same ss (store (inJournal i v) m) (store (inJournal i v) n) e
+area_same (in_journal i v ∷ ss) m n e = area_same ss (store (in_journal i v) m) (store (in_journal i v) n) e
 area_same (in_area i v ∷ ss) m n e = area_same ss (store (in_area i v) m) (store (in_area i v) n) (ap (λ (a : List ℕ). set a i v) e)
 
 -- ---- bytes stored rising are a splice
 
-sets-journal : (at : ℕ) (bs : List ℕ) (m : Memory) → storeAll (rising inJournal at bs) m ≡ memory (sets m.journal at bs) m.area
-sets-journal at [] m = refl
-sets-journal at (b ∷ bs) m =
+sets_journal : (at : ℕ) (bs : List ℕ) (m : Memory) → store_all (rising in_journal at bs) m ≡ memory (sets m.journal at bs) m.area
+sets_journal at [] m = refl
+sets_journal at (b ∷ bs) m =
     let e : at + 1 ≡ suc at = omega arith in
-    rw e (sets-journal (suc at) bs (store (inJournal at b) m))
+    rw e (sets_journal (suc at) bs (store (in_journal at b) m))
 
-sets-area : (at : ℕ) (bs : List ℕ) (m : Memory) → storeAll (rising in_area at bs) m ≡ memory m.journal (sets m.area at bs)
-sets-area at [] m = refl
-sets-area at (b ∷ bs) m =
+sets_area : (at : ℕ) (bs : List ℕ) (m : Memory) → store_all (rising in_area at bs) m ≡ memory m.journal (sets m.area at bs)
+sets_area at [] m = refl
+sets_area at (b ∷ bs) m =
     let e : at + 1 ≡ suc at = omega arith in
-    rw e (sets-area (suc at) bs (store (in_area at b) m))
+    rw e (sets_area (suc at) bs (store (in_area at b) m))
 
 pub splice-journal : (at : ℕ) (bs : List ℕ) (m : Memory) → at + length bs ≤ length m.journal
-    → storeAll (rising inJournal at bs) m ≡ memory (splice m.journal at bs) m.area
-splice-journal at bs m h = sets-journal at bs m ∙ ap (λ (j : List ℕ). memory j m.area) (splice-sets m.journal at bs h)
+    → store_all (rising in_journal at bs) m ≡ memory (splice m.journal at bs) m.area
+splice-journal at bs m h = sets_journal at bs m ∙ ap (λ (j : List ℕ). memory j m.area) (splice_sets m.journal at bs h)
 
 pub splice-area : (at : ℕ) (bs : List ℕ) (m : Memory) → at + length bs ≤ length m.area
-    → storeAll (rising in_area at bs) m ≡ memory m.journal (splice m.area at bs)
-splice-area at bs m h = sets-area at bs m ∙ ap (memory m.journal) (splice-sets m.area at bs h)
+    → store_all (rising in_area at bs) m ≡ memory m.journal (splice m.area at bs)
+splice-area at bs m h = sets_area at bs m ∙ ap (memory m.journal) (splice_sets m.area at bs h)
 
 -- ---- a list of stores after a front part of itself
 
 -- two stores to one place
 abbrev SamePlace : Store → Store → Type 0
-SamePlace (inJournal i v) (inJournal k w) = i ≡ k
-SamePlace (inJournal i v) (in_area k w) = ⊥
-SamePlace (in_area i v) (inJournal k w) = ⊥
+SamePlace (in_journal i v) (in_journal k w) = i ≡ k
+SamePlace (in_journal i v) (in_area k w) = ⊥
+SamePlace (in_area i v) (in_journal k w) = ⊥
 SamePlace (in_area i v) (in_area k w) = i ≡ k
 
 same_place : (s x : Store) → Dec (SamePlace s x)
-same_place (inJournal i v) (inJournal k w) = ℕ_discrete i k
-same_place (inJournal i v) (in_area k w) = no (λ e. e)
-same_place (in_area i v) (inJournal k w) = no (λ e. e)
+same_place (in_journal i v) (in_journal k w) = ℕ_discrete i k
+same_place (in_journal i v) (in_area k w) = no (λ e. e)
+same_place (in_area i v) (in_journal k w) = no (λ e. e)
 same_place (in_area i v) (in_area k w) = ℕ_discrete i k
 
-own-place : (s : Store) → SamePlace s s
-own-place (inJournal i v) = refl
-own-place (in_area i v) = refl
+own_place : (s : Store) → SamePlace s s
+own_place (in_journal i v) = refl
+own_place (in_area i v) = refl
 
 -- the later of them stays
-later-stays : (s x : Store) (m : Memory) → SamePlace s x → store x (store s m) ≡ store x m
-later-stays (inJournal i v) (inJournal k w) m e = rw e (ap (λ (j : List ℕ). memory j m.area) (set-set m.journal k v w))
-later-stays (inJournal i v) (in_area k w) m e = absurd e
-later-stays (in_area i v) (inJournal k w) m e = absurd e
-later-stays (in_area i v) (in_area k w) m e = rw e (ap (memory m.journal) (set-set m.area k v w))
+later_stays : (s x : Store) (m : Memory) → SamePlace s x → store x (store s m) ≡ store x m
+later_stays (in_journal i v) (in_journal k w) m e = rw e (ap (λ (j : List ℕ). memory j m.area) (set-set m.journal k v w))
+later_stays (in_journal i v) (in_area k w) m e = absurd e
+later_stays (in_area i v) (in_journal k w) m e = absurd e
+later_stays (in_area i v) (in_area k w) m e = rw e (ap (memory m.journal) (set-set m.area k v w))
 
 -- stores to two places change places
 swap : (s x : Store) (m : Memory) → (SamePlace s x → ⊥) → store x (store s m) ≡ store s (store x m)
-swap (inJournal i v) (inJournal k w) m n = ap (λ (j : List ℕ). memory j m.area) (set_comm m.journal i k v w n)
-swap (inJournal i v) (in_area k w) m n = refl
-swap (in_area i v) (inJournal k w) m n = refl
+swap (in_journal i v) (in_journal k w) m n = ap (λ (j : List ℕ). memory j m.area) (set_comm m.journal i k v w n)
+swap (in_journal i v) (in_area k w) m n = refl
+swap (in_area i v) (in_journal k w) m n = refl
 swap (in_area i v) (in_area k w) m n = ap (memory m.journal) (set_comm m.area i k v w n)
 
 -- some store of the list is to the same place
@@ -166,28 +166,28 @@ Covered [] s = ⊥
 Covered (x ∷ l) s = SamePlace s x ⊎ Covered l s
 
 -- a store before a list that covers it is lost
-lost : (l : List Store) (s : Store) (m : Memory) → Covered l s → storeAll l (store s m) ≡ storeAll l m
+lost : (l : List Store) (s : Store) (m : Memory) → Covered l s → store_all l (store s m) ≡ store_all l m
 lost [] s m c = absurd c
 lost (x ∷ l) s m c = go (lost l s (store x m)) (same_place s x) c
   where
-    go : (Covered l s → storeAll l (store s (store x m)) ≡ storeAll l (store x m)) → Dec (SamePlace s x) → SamePlace s x ⊎ Covered l s
-        → storeAll l (store x (store s m)) ≡ storeAll l (store x m)
-    go ih (yes e) c = ap (storeAll l) (later-stays s x m e)
+    go : (Covered l s → store_all l (store s (store x m)) ≡ store_all l (store x m)) → Dec (SamePlace s x) → SamePlace s x ⊎ Covered l s
+        → store_all l (store x (store s m)) ≡ store_all l (store x m)
+    go ih (yes e) c = ap (store_all l) (later_stays s x m e)
     go ih (no n) (inl e) = absurd (n e)
-    go ih (no n) (inr d) = ap (storeAll l) (swap s x m n) ∙ ih d
+    go ih (no n) (inr d) = ap (store_all l) (swap s x m n) ∙ ih d
 
-lost-all : (l t : List Store) (m : Memory) → All (Covered l) t → storeAll l (storeAll t m) ≡ storeAll l m
-lost-all l [] m h = refl
-lost-all l (s ∷ t) m h = lost-all l t (store s m) h.1 ∙ lost l s m h.0
+lost_all : (l t : List Store) (m : Memory) → All (Covered l) t → store_all l (store_all t m) ≡ store_all l m
+lost_all l [] m h = refl
+lost_all l (s ∷ t) m h = lost_all l t (store s m) h.1 ∙ lost l s m h.0
 
 wider : (x : Store) (l t : List Store) → All (Covered l) t → All (Covered (x ∷ l)) t
 wider x l [] h = tt
 wider x l (s ∷ t) h = (inr h.0, wider x l t h.1)
 
-covers-itself : (l : List Store) → All (Covered l) l
-covers-itself [] = tt
-covers-itself (s ∷ l) = (inl (own-place s), wider s l l (covers-itself l))
+covers_itself : (l : List Store) → All (Covered l) l
+covers_itself [] = tt
+covers_itself (s ∷ l) = (inl (own_place s), wider s l l (covers_itself l))
 
 -- A list of stores after a front part of itself gives what the list gives.
-pub again : (l : List Store) (k : ℕ) (m : Memory) → storeAll l (storeAll (take k l) m) ≡ storeAll l m
-again l k m = lost-all l (take k l) m (all_take (Covered l) k l (covers-itself l))
+pub again : (l : List Store) (k : ℕ) (m : Memory) → store_all l (store_all (take k l) m) ≡ store_all l m
+again l k m = lost_all l (take k l) m (all_take (Covered l) k l (covers_itself l))

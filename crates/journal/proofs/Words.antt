@@ -10,8 +10,8 @@ use lib.ListN.{length, get_or}
 use lib.Dec.{eqb}
 use borrow.Author.Tests.{eq-eqb, le-leb, eqb-true}
 use Rattle.wire.specs.Bytes.{splice}
-use Rattle.wire.proofs.Splice.{length-splice, getD-splice-before, getD-splice-in, getD-splice-behind}
-use Rattle.journal.specs.Journal.{in_area, Memory, memory, storeAll, rising, part, Word, alike, wordsFrom, applyStores, fits}
+use Rattle.wire.proofs.Splice.{length-splice, get_or-splice_before, get_or-splice_in, get_or-splice-behind}
+use Rattle.journal.specs.Journal.{in_area, Memory, memory, store_all, rising, part, Word, alike, words_from, apply_stores, fits}
 use Rattle.journal.proofs.Stores.{stores-append, splice-area}
 use Rattle.journal.proofs.Clearing.{and_left, and_right}
 use Rattle.journal.proofs.Records.{AllFine}
@@ -38,18 +38,18 @@ one_word : (P : List Word → Type 0) (same : Bool) (w : Word) (ws : List Word) 
 one_word P true w ws h g = h refl
 one_word P false w ws h g = g refl
 
-pub words-fine : (n at : ℕ) (old new : List ℕ) → at % 8 ≡ 0 → at + 8 * n ≤ length old → AllFine (length old) (wordsFrom n at old new)
-unfolding wordsFrom
-words-fine zero at old new e h = tt
-words-fine (suc n) at old new e h =
-    let ih : AllFine (length old) (wordsFrom n (at + 8) old new) = words-fine n (at + 8) old new (omega arith) (omega arith) in
-    one_word (AllFine (length old)) (alike old new at 8) (record { offset = at; bytes = part new at 8 }) (wordsFrom n (at + 8) old new)
+pub words_fine : (n at : ℕ) (old new : List ℕ) → at % 8 ≡ 0 → at + 8 * n ≤ length old → AllFine (length old) (words_from n at old new)
+unfolding words_from
+words_fine zero at old new e h = tt
+words_fine (suc n) at old new e h =
+    let ih : AllFine (length old) (words_from n (at + 8) old new) = words_fine n (at + 8) old new (omega arith) (omega arith) in
+    one_word (AllFine (length old)) (alike old new at 8) (record { offset = at; bytes = part new at 8 }) (words_from n (at + 8) old new)
     (λ _. ih) (λ _. (record { eights = e; inside = omega arith; eight = refl }, ih))
 
-pub fine-fits : (len : ℕ) (ws : List Word) → AllFine len ws → fits len ws ≡ true
-fine-fits len [] f = refl
-fine-fits len (w ∷ ws) f =
-    rw (eq-eqb (w.offset % 8) 0 f.0.eights, le-leb (w.offset + 8) len f.0.inside) (fine-fits len ws f.1)
+pub fine_fits : (len : ℕ) (ws : List Word) → AllFine len ws → fits len ws ≡ true
+fine_fits len [] f = refl
+fine_fits len (w ∷ ws) f =
+    rw (eq-eqb (w.offset % 8) 0 f.0.eights, le-leb (w.offset + 8) len f.0.inside) (fine_fits len ws f.1)
 
 -- ---- what they give
 
@@ -58,8 +58,8 @@ pub record Mixed (old new : List ℕ) (at : ℕ) (x : List ℕ) : Type 0 where
   pub below : (p : ℕ) → p < at → get_or x p 0 ≡ get_or new p 0
   pub above : (p : ℕ) → at ≤ p → get_or x p 0 ≡ get_or old p 0
 
-mixed-same : (old new : List ℕ) (at : ℕ) (x : List ℕ) → alike old new at 8 ≡ true → Mixed old new at x → Mixed old new (at + 8) x
-mixed-same old new at x h f = record {
+mixed_same : (old new : List ℕ) (at : ℕ) (x : List ℕ) → alike old new at 8 ≡ true → Mixed old new at x → Mixed old new (at + 8) x
+mixed_same old new at x h f = record {
   below = λ p g. elim (dec_le at p) [
     | yes q ↦ let e : at + (p - at) ≡ p = omega arith in f.above p q ∙ rw e at (alike_at 8 old new at h (p - at) (omega arith))
     | no q ↦ f.below p (lt_of_not-le q)
@@ -67,44 +67,44 @@ mixed-same old new at x h f = record {
   above = λ p g. f.above p (omega arith);
 }
 
-mixed-put : (old new : List ℕ) (at : ℕ) (x : List ℕ) → at + 8 ≤ length x → Mixed old new at x → Mixed old new (at + 8) (splice x at (part new at 8))
-mixed-put old new at x h f = record {
+mixed_put : (old new : List ℕ) (at : ℕ) (x : List ℕ) → at + 8 ≤ length x → Mixed old new at x → Mixed old new (at + 8) (splice x at (part new at 8))
+mixed_put old new at x h f = record {
   below = λ p g. elim (dec_le at p) [
     | yes q ↦ let e : at + (p - at) ≡ p = omega arith in
-        rw e at (getD-splice-in x at (part new at 8) (omega arith) (p - at) (omega arith) ∙ get_d_part 8 new at (p - at) (omega arith))
-    | no q ↦ getD-splice-before x at (part new at 8) (omega arith) p (lt_of_not-le q) ∙ f.below p (lt_of_not-le q)
+        rw e at (get_or-splice_in x at (part new at 8) (omega arith) (p - at) (omega arith) ∙ get_d_part 8 new at (p - at) (omega arith))
+    | no q ↦ get_or-splice_before x at (part new at 8) (omega arith) p (lt_of_not-le q) ∙ f.below p (lt_of_not-le q)
   ];
-  above = λ p g. getD-splice-behind x at (part new at 8) (omega arith) p g ∙ f.above p (omega arith);
+  above = λ p g. get_or-splice-behind x at (part new at 8) (omega arith) p g ∙ f.above p (omega arith);
 }
 
 pub applied : (n at : ℕ) (old new : List ℕ) (m : Memory) → at + 8 * n ≤ length m.area → Mixed old new at m.area
-    → Mixed old new (at + 8 * n) (storeAll (applyStores (wordsFrom n at old new)) m).area
-unfolding wordsFrom
+    → Mixed old new (at + 8 * n) (store_all (apply_stores (words_from n at old new)) m).area
+unfolding words_from
 applied zero at old new m h f = let e : at + 8 * 0 ≡ at = omega arith in rw e f
 applied (suc n) at old new m h f =
-    let ws : List Word = wordsFrom n (at + 8) old new in
+    let ws : List Word = words_from n (at + 8) old new in
     let b : List ℕ = part new at 8 in
     let e : at + 8 * suc n ≡ at + 8 + 8 * n = omega arith in
     let x : List ℕ = splice m.area at b in
     let l : length x ≡ length m.area = length-splice m.area at b (omega arith) in
     rw e
-    (one_word (λ (z : List Word). Mixed old new (at + 8 + 8 * n) (storeAll (applyStores z) m).area) (alike old new at 8)
+    (one_word (λ (z : List Word). Mixed old new (at + 8 + 8 * n) (store_all (apply_stores z) m).area) (alike old new at 8)
     (record { offset = at; bytes = b }) ws
-    (λ t. applied n (at + 8) old new m (omega arith) (mixed-same old new at m.area t f))
+    (λ t. applied n (at + 8) old new m (omega arith) (mixed_same old new at m.area t f))
     (λ _.
-    rw (stores-append (rising in_area at b) (applyStores ws) m, splice-area at b m (omega arith))
-    (applied n (at + 8) old new (memory m.journal x) (rw l (omega arith)) (mixed-put old new at m.area (omega arith) f))))
+    rw (stores-append (rising in_area at b) (apply_stores ws) m, splice-area at b m (omega arith))
+    (applied n (at + 8) old new (memory m.journal x) (rw l (omega arith)) (mixed_put old new at m.area (omega arith) f))))
 
 -- ---- the first of them
 
 -- of n words from at on none changes, or w is the offset of the first that does, and those from the next place on follow it
 pub data Next (old new : List ℕ) (n at : ℕ) : Type 0 where
-  done : wordsFrom n at old new ≡ [] → Next old new n at
-  more : (w k : ℕ) → wordsFrom n at old new ≡ record { offset = w; bytes = part new w 8 } ∷ wordsFrom k (w + 8) old new
+  done : words_from n at old new ≡ [] → Next old new n at
+  more : (w k : ℕ) → words_from n at old new ≡ record { offset = w; bytes = part new w 8 } ∷ words_from k (w + 8) old new
       → w + 8 + 8 * k ≡ at + 8 * n → at ≤ w → Next old new n at
 
 pub next : (old new : List ℕ) (n at : ℕ) → Next old new n at
-unfolding wordsFrom
+unfolding words_from
 next old new zero at = done refl
 next old new (suc n) at = go (alike old new at 8) refl (next old new n (at + 8))
   where

@@ -8,7 +8,7 @@ use Rattle.wire.specs.Bytes.{field, le_bytes}
 
 -- one byte stored: in which buffer, at which place, which value
 pub data Store : Type 0 where
-  inJournal : ℕ → ℕ → Store
+  in_journal : ℕ → ℕ → Store
   in_area : ℕ → ℕ → Store
 
 -- the area, and "a journal in a second lent buffer"
@@ -20,13 +20,13 @@ abbrev pub memory : List ℕ → List ℕ → Memory
 memory j a = record { journal = j; area = a }
 
 abbrev pub store : Store → Memory → Memory
-store (inJournal i v) m = memory (set m.journal i v) m.area
+store (in_journal i v) m = memory (set m.journal i v) m.area
 store (in_area i v) m = memory m.journal (set m.area i v)
 
 -- one after the other
-abbrev pub storeAll : List Store → Memory → Memory
-storeAll [] m = m
-storeAll (s ∷ ss) m = storeAll ss (store s m)
+abbrev pub store_all : List Store → Memory → Memory
+store_all [] m = m
+store_all (s ∷ ss) m = store_all ss (store s m)
 
 -- bytes stored from a place on, "rising"
 abbrev pub rising : (ℕ → ℕ → Store) → ℕ → List ℕ → List Store
@@ -66,15 +66,15 @@ alike old new at zero = true
 alike old new at (suc k) = eqb (get_or old at 0) (get_or new at 0) && alike old new (at + 1) k
 
 -- of n words from at on those that change, "in rising order", with their new bytes
-unfoldable pub wordsFrom : ℕ → ℕ → List ℕ → List ℕ → List Word
-wordsFrom zero at old new = []
-wordsFrom (suc n) at old new =
-    cond (alike old new at 8) (wordsFrom n (at + 8) old new)
-    (record { offset = at; bytes = part new at 8 } ∷ wordsFrom n (at + 8) old new)
+unfoldable pub words_from : ℕ → ℕ → List ℕ → List ℕ → List Word
+words_from zero at old new = []
+words_from (suc n) at old new =
+    cond (alike old new at 8) (words_from n (at + 8) old new)
+    (record { offset = at; bytes = part new at 8 } ∷ words_from n (at + 8) old new)
 
 -- "each 8-byte word of the area that changes": words count from the area's first byte, and bytes behind the last whole word belong to none
-unfoldable pub changedWords : List ℕ → List ℕ → List Word
-changedWords old new = wordsFrom (length old / 8) 0 old new
+unfoldable pub changed_words : List ℕ → List ℕ → List Word
+changed_words old new = words_from (length old / 8) 0 old new
 
 -- ---- the stores of an edit
 
@@ -83,44 +83,44 @@ abbrev pub body_of : ℕ → List ℕ → List ℕ
 body_of offset bytes = 0 ∷ 0 ∷ 0 ∷ (le_bytes 4 offset ++ bytes)
 
 -- a record, its "bytes 1 to 15 rising and its kind last"
-abbrev pub recordStores : ℕ → ℕ → ℕ → List ℕ → List Store
-recordStores i k offset bytes = rising inJournal (16 * i + 1) (body_of offset bytes) ++ (inJournal (16 * i) k ∷ [])
+abbrev pub record_stores : ℕ → ℕ → ℕ → List ℕ → List Store
+record_stores i k offset bytes = rising in_journal (16 * i + 1) (body_of offset bytes) ++ (in_journal (16 * i) k ∷ [])
 
 -- from record i on "One word record" for each word, "then one commit record with zeros"
-abbrev pub journalStores : ℕ → List Word → List Store
-journalStores i [] = recordStores i 2 0 (replicate 8 0)
-journalStores i (w ∷ ws) = recordStores i 1 w.offset w.bytes ++ journalStores (i + 1) ws
+abbrev pub journal_stores : ℕ → List Word → List Store
+journal_stores i [] = record_stores i 2 0 (replicate 8 0)
+journal_stores i (w ∷ ws) = record_stores i 1 w.offset w.bytes ++ journal_stores (i + 1) ws
 
 -- "then the words are applied in that order, every byte stored, rising, changed or not"
-abbrev pub applyStores : List Word → List Store
-applyStores [] = []
-applyStores (w ∷ ws) = rising in_area w.offset w.bytes ++ applyStores ws
+abbrev pub apply_stores : List Word → List Store
+apply_stores [] = []
+apply_stores (w ∷ ws) = rising in_area w.offset w.bytes ++ apply_stores ws
 
 -- "then the kind of every whole record is stored as 0, 0 already or not, first to last": of n records from record i on. Nothing else of a record
 -- is stored again: "spent records keep their bytes 1 to 15"
-abbrev pub clearStores : ℕ → ℕ → List Store
-clearStores i zero = []
-clearStores i (suc n) = inJournal (16 * i) 0 ∷ clearStores (i + 1) n
+abbrev pub clear_stores : ℕ → ℕ → List Store
+clear_stores i zero = []
+clear_stores i (suc n) = in_journal (16 * i) 0 ∷ clear_stores (i + 1) n
 
 -- all of it, of an edit that makes the new area out of the old one
-unfoldable pub editStores : List ℕ → List ℕ → List ℕ → List Store
-editStores j old new =
-    journalStores 0 (changedWords old new) ++ (applyStores (changedWords old new) ++ clearStores 0 (records j))
+unfoldable pub edit_stores : List ℕ → List ℕ → List ℕ → List Store
+edit_stores j old new =
+    journal_stores 0 (changed_words old new) ++ (apply_stores (changed_words old new) ++ clear_stores 0 (records j))
 
 -- the commit is stored with the last byte of the journal's stores, its kind: that is the store with this number
-abbrev pub commitStore : List ℕ → List ℕ → ℕ
-commitStore old new = 16 * (length (changedWords old new) + 1)
+abbrev pub commit_store : List ℕ → List ℕ → ℕ
+commit_store old new = 16 * (length (changed_words old new) + 1)
 
 -- ---- refusal 16
 
 -- the kinds of n records from record i on are at most `most`
-abbrev pub kindsUpTo : ℕ → ℕ → List ℕ → ℕ → Bool
-kindsUpTo most zero j i = true
-kindsUpTo most (suc n) j i = leb (kind j i) most && kindsUpTo most n j (i + 1)
+abbrev pub kinds_up_to : ℕ → ℕ → List ℕ → ℕ → Bool
+kinds_up_to most zero j i = true
+kinds_up_to most (suc n) j i = leb (kind j i) most && kinds_up_to most n j (i + 1)
 
 -- 16, "exactly when some kind is not 0 or the changed words plus one exceed the whole records in the buffer"
-unfoldable pub refusesJournal : List ℕ → List ℕ → List ℕ → Bool
-refusesJournal j old new = not (kindsUpTo 0 (records j) j 0) || leb (records j) (length (changedWords old new))
+unfoldable pub refuses_journal : List ℕ → List ℕ → List ℕ → Bool
+refuses_journal j old new = not (kinds_up_to 0 (records j) j 0) || leb (records j) (length (changed_words old new))
 
 -- ---- recovery
 
@@ -137,25 +137,25 @@ pending zero j i = none
 pending (suc n) j i = by_kind (kind j i) (map (λ (ws : List Word). word_at j i ∷ ws) (pending n j (i + 1)))
 
 -- an offset is a multiple of 8, and offset + 8 does not exceed L
-abbrev pub fitsIn : ℕ → ℕ → Bool
-fitsIn len offset = eqb (offset % 8) 0 && leb (offset + 8) len
+abbrev pub fits_in : ℕ → ℕ → Bool
+fits_in len offset = eqb (offset % 8) 0 && leb (offset + 8) len
 
 -- so is that of each word that would be applied
 abbrev pub fits : ℕ → List Word → Bool
 fits len [] = true
-fits len (w ∷ ws) = fitsIn len w.offset && fits len ws
+fits len (w ∷ ws) = fits_in len w.offset && fits len ws
 
 -- the stores of a recovery that has these words to apply: "and then, applied or not, clears the same way"
-abbrev pub recoveryOf : ℕ → List Store → Option (List Word) → Option (List Store)
-recoveryOf len clear none = some clear
-recoveryOf len clear (some ws) = cond (fits len ws) (some (applyStores ws ++ clear)) none
+abbrev pub recovery_of : ℕ → List Store → Option (List Word) → Option (List Store)
+recovery_of len clear none = some clear
+recovery_of len clear (some ws) = cond (fits len ws) (some (apply_stores ws ++ clear)) none
 
 -- the stores of a recovery, which "makes no other check"; none where it "gives 17 and changes nothing exactly when a kind exceeds 2, or a word
 -- it would apply has an offset that is no multiple of 8 or offset + 8 exceeds L"
 unfoldable pub recovery : Memory → Option (List Store)
 recovery m =
     let n : ℕ = records m.journal in
-    cond (kindsUpTo 2 n m.journal 0) (recoveryOf (length m.area) (clearStores 0 n) (pending n m.journal 0)) none
+    cond (kinds_up_to 2 n m.journal 0) (recovery_of (length m.area) (clear_stores 0 n) (pending n m.journal 0)) none
 
 -- a recovery that is refused stores nothing
 abbrev pub stores_of : Option (List Store) → List Store

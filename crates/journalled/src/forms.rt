@@ -1,5 +1,5 @@
 // The whole forms: what was decided, then the steps to the end.
-ghost use Rattle.rules.specs.Edit.{toAdd, toAddAligned, toVoid};
+ghost use Rattle.rules.specs.Edit.{to_add, to_add_aligned, to_void};
 ghost use Rattle.journal.specs.Journal.{memory};
 ghost use Rattle.steps.specs.Steps.{ended};
 ghost use Rattle.journalled.specs.Journalled.{Journalled};
@@ -17,7 +17,7 @@ pub fn add(
     use_voids: bool,
     journal: &mut [u8],
 ) -> DoneAnswer
-    ensures { Journalled (toAdd tag «data».now use_voids) journal.old area.old base
+    ensures { Journalled (to_add tag «data».now use_voids) journal.old area.old base
         (ended result (memory journal.new area.new)) }
 {
     let s = starts::add(area, base, tag, data, use_voids, journal);
@@ -33,7 +33,7 @@ pub fn add_aligned(
     exponent: u32,
     journal: &mut [u8],
 ) -> DoneAnswer
-    ensures { Journalled (toAddAligned tag «data».now exponent) journal.old area.old base
+    ensures { Journalled (to_add_aligned tag «data».now exponent) journal.old area.old base
         (ended result (memory journal.new area.new)) }
 {
     let s = starts::add_aligned(area, base, tag, data, exponent, journal);
@@ -42,7 +42,7 @@ pub fn add_aligned(
 
 // Turns occurrence n of a tag into a void. Answers the voided entry's offset.
 pub fn void(area: &mut [u8], base: u64, tag: u32, n: u64, journal: &mut [u8]) -> DoneAnswer
-    ensures { Journalled (toVoid tag n) journal.old area.old base
+    ensures { Journalled (to_void tag n) journal.old area.old base
         (ended result (memory journal.new area.new)) }
 {
     let s = starts::void(area, base, tag, n, journal);

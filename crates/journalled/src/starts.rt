@@ -1,9 +1,9 @@
 // What each form decides, and where its steps begin. Reading only.
 ghost use Rattle.std.specs.Prelude.{◌≡◌};
-ghost use Rattle.rules.specs.Edit.{toAdd, toAddAligned, toVoid};
+ghost use Rattle.rules.specs.Edit.{to_add, to_add_aligned, to_void};
 ghost use Rattle.journal.specs.Journal.{memory};
 ghost use Rattle.plan.specs.Plan.{CanWrite};
-ghost use Rattle.journalled.specs.Journalled.{startFor, Begins, startPlanned, SurvivesPlanned};
+ghost use Rattle.journalled.specs.Journalled.{start_for, Begins, start_planned, SurvivesPlanned};
 
 use edit::decide;
 use plan::Planned;
@@ -13,7 +13,7 @@ use steps::{Steps, begin};
 // Where what was decided begins.
 fn start(planned: Planned, area: &[u8], data: &[u8], journal: &[u8]) -> Steps
     requires { CanWrite area.now «data».now planned }
-    ensures value { result ≡ startPlanned «data».now planned (memory journal.now area.now) }
+    ensures value { result ≡ start_planned «data».now planned (memory journal.now area.now) }
     ensures survives_planned { SurvivesPlanned «data».now planned (memory journal.now area.now) result }
 {
     let Planned::Go(p) = planned else {
@@ -25,8 +25,8 @@ fn start(planned: Planned, area: &[u8], data: &[u8], journal: &[u8]) -> Steps
 
 // An add.
 pub fn add(area: &[u8], base: u64, tag: u32, data: &[u8], use_voids: bool, journal: &[u8]) -> Steps
-    ensures value { result ≡ startFor (toAdd tag «data».now use_voids) journal.now area.now base }
-    ensures begins { Begins (toAdd tag «data».now use_voids) journal.now area.now base }
+    ensures value { result ≡ start_for (to_add tag «data».now use_voids) journal.now area.now base }
+    ensures begins { Begins (to_add tag «data».now use_voids) journal.now area.now base }
 {
     let planned = decide::decide_add(area, base, tag, data, use_voids);
     start(planned, area, data, journal)
@@ -41,8 +41,8 @@ pub fn add_aligned(
     exponent: u32,
     journal: &[u8],
 ) -> Steps
-    ensures value { result ≡ startFor (toAddAligned tag «data».now exponent) journal.now area.now base }
-    ensures begins { Begins (toAddAligned tag «data».now exponent) journal.now area.now base }
+    ensures value { result ≡ start_for (to_add_aligned tag «data».now exponent) journal.now area.now base }
+    ensures begins { Begins (to_add_aligned tag «data».now exponent) journal.now area.now base }
 {
     let planned = decide::decide_add_aligned(area, base, tag, data, exponent);
     start(planned, area, data, journal)
@@ -50,8 +50,8 @@ pub fn add_aligned(
 
 // A void, which has no data.
 pub fn void(area: &[u8], base: u64, tag: u32, n: u64, journal: &[u8]) -> Steps
-    ensures value { result ≡ startFor (toVoid tag n) journal.now area.now base }
-    ensures begins { Begins (toVoid tag n) journal.now area.now base }
+    ensures value { result ≡ start_for (to_void tag n) journal.now area.now base }
+    ensures begins { Begins (to_void tag n) journal.now area.now base }
 {
     let planned = decide::decide_void(area, base, tag, n);
     let none: [u8; 0] = [];

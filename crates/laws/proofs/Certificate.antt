@@ -5,7 +5,7 @@ use mathlib.Core.Path.{◌≡◌, refl, sym, ap, subst, ◌∙◌}
 use Prim.Native.Nat.{ℕ, zero, suc, ◌+◌, ◌-◌, ◌*◌, ◌^◌, ◌≤◌, ◌<◌}
 use native.Mathlib.Omega.{arith}
 use native.Mathlib.Nat.{lt_of_not-le, lt_of_mul-lt-mul_right, mul-lt-mul_of_pos_right, mul-le-mul_right, mul_assoc, mul-pos, mul-sub, mul-one}
-use mathlib.Core.Bool.{Bool, true, false, not, cond, or-true, true≢false}
+use mathlib.Core.Bool.{Bool, true, false, not, cond, or_true, true≢false}
 use mathlib.Core.List.{List, [], ◌∷◌}
 use lib.IntN.{ℤ, pos, negsuc}
 use lib.Dec.{T, ltb, eqb, leb→le, ltb→lt}
@@ -42,31 +42,31 @@ use Rattle.rules.specs.declared.Checked.{Checked}
 use Rattle.rules.specs.declared.Checked.TheVariants as checked
 use Rattle.rules.specs.declared.certificate.Certificate.{Certificate}
 use Rattle.rules.specs.declared.certificate.Certified.TheVariants.{Read, NotOne, Another, Unsound}
-use Rattle.rules.specs.Entries.{entriesOf}
-use Rattle.rules.specs.Tags.{certificateTag, certificateSize}
+use Rattle.rules.specs.Entries.{entries_of}
+use Rattle.rules.specs.Tags.{certificate_tag, certificate_size}
 use Rattle.rules.specs.Check.{check}
-use Rattle.rules.specs.Demand3.{liveAt}
+use Rattle.rules.specs.Demand3.{live_at}
 use Rattle.rules.specs.Certificate.{
-  certificateOf,
+  certificate_of,
   float,
-  gaugeReading,
+  gauge_reading,
   reading_of,
   tagged,
-  refusesIdentity,
-  notFinite,
-  refusesContents,
+  refuses_identity,
+  not_finite,
+  refuses_contents,
   judged,
   certified,
-  certifiedIn,
-  afterChecks,
+  certified_in,
+  after_checks,
   certify,
-  plusZero,
+  plus_zero,
 }
 use Rattle.laws.proofs.Check.{past}
 
 -- -0.0
-abbrev pub minusZero : Float
-minusZero = fin true 0 (pos 0)
+abbrev pub minus_zero : Float
+minus_zero = fin true 0 (pos 0)
 
 -- a float with another sign
 abbrev signed : Bool → Float → Float
@@ -75,9 +75,9 @@ signed s (inf t) = inf s
 signed s (fin t m e) = fin s m e
 
 -- the sign goes into either answer of a test
-signed-cond : (s b : Bool) (x y : Float) → signed s (cond b x y) ≡ cond b (signed s x) (signed s y)
-signed-cond s true x y = refl
-signed-cond s false x y = refl
+signed_cond : (s b : Bool) (x y : Float) → signed s (cond b x y) ≡ cond b (signed s x) (signed s y)
+signed_cond s true x y = refl
+signed_cond s false x y = refl
 
 -- a number written with an odd m has the sign that it was given
 signed_odd : (s t : Bool) (d q k l : ℕ) → signed s (odd d t q k l) ≡ odd d s q k l
@@ -86,19 +86,19 @@ signed_odd s t d zero k l = refl
 signed_odd s t d (suc q) k l = refl
 
 -- what is above zero has no minus sign
-above-plain : (x : Float) → (lt plusZero x ≡ false → ⊥) → x ≡ signed false x
+above_plain : (x : Float) → (lt plus_zero x ≡ false → ⊥) → x ≡ signed false x
 unfolding lt
-above-plain nan h = refl
-above-plain (inf true) h = absurd (h refl)
-above-plain (inf false) h = refl
-above-plain (fin true m e) h = absurd (h refl)
-above-plain (fin false m e) h = refl
+above_plain nan h = refl
+above_plain (inf true) h = absurd (h refl)
+above_plain (inf false) h = refl
+above_plain (fin true m e) h = absurd (h refl)
+above_plain (fin false m e) h = refl
 
 -- the smallest value of a format is above zero
-least-positive : (f : Format) → T (positive (round f false 1 (2 ^ low f)))
+least_positive : (f : Format) → T (positive (round f false 1 (2 ^ low f)))
 unfolding round
-least-positive binary32 = tt
-least-positive binary64 = tt
+least_positive binary32 = tt
+least_positive binary64 = tt
 
 -- where a is less than b and both, times l, are multiples of c, their difference times l is c at least
 gap : (a b c l x y : ℕ) → 0 < l → a < b → a * l ≡ x * c → b * l ≡ y * c → c ≤ (b - a) * l
@@ -108,7 +108,7 @@ module _ (f : Format) where
   -- a rounded fraction has the sign that it was given
   signed_round : (s t : Bool) (a c : ℕ) → signed s (round f t a c) ≡ round f s a c
   unfolding round units
-  signed_round s t a c = rw (signed-cond, signed_odd)
+  signed_round s t a c = rw (signed_cond, signed_odd)
 
   -- a product of two floats with no minus sign has none
   signed_mul : (x y : Float) → mul f (signed false x) (signed false y) ≡ signed false (mul f x y)
@@ -116,70 +116,70 @@ module _ (f : Format) where
   signed_mul nan y = refl
   signed_mul (inf s) nan = refl
   signed_mul (inf s) (inf t) = refl
-  signed_mul (inf s) (fin t n d) = rw (signed-cond false (eqb n 0))
+  signed_mul (inf s) (fin t n d) = rw (signed_cond false (eqb n 0))
   signed_mul (fin s m e) nan = refl
-  signed_mul (fin s m e) (inf t) = rw (signed-cond false (eqb m 0))
+  signed_mul (fin s m e) (inf t) = rw (signed_cond false (eqb m 0))
   signed_mul (fin s m e) (fin t n d) = sym (signed_round false _ _ _)
 
   -- a rounded fraction is not -0.0 if it has no minus sign or is the smallest value or more
-  round-plain : (s : Bool) (a c : ℕ) → 0 < c → (T s → c ≤ a * 2 ^ low f) → round f s a c ≡ minusZero → ⊥
-  round-plain false a c C h k = let z : ◌≡◌ {A = ℕ} 0 1 = cc (signed_round false false a c) in omega arith
-  round-plain true a c C h k =
+  round_plain : (s : Bool) (a c : ℕ) → 0 < c → (T s → c ≤ a * 2 ^ low f) → round f s a c ≡ minus_zero → ⊥
+  round_plain false a c C h k = let z : ◌≡◌ {A = ℕ} 0 1 = cc (signed_round false false a c) in omega arith
+  round_plain true a c C h k =
       let m = round_mono f 1 (2 ^ low f) a c (pow_pos (low f)) C (omega (arith, h tt)) in
-      rw (← signed_round false true a c, k) at (above_of_le (round f false 1 (2 ^ low f)) (round f false a c) (least-positive f) m)
+      rw (← signed_round false true a c, k) at (above_of_le (round f false 1 (2 ^ low f)) (round f false a c) (least_positive f) m)
 
   -- a value that the format holds is a whole number of its smallest values
-  in-units : (s : Bool) (m : ℕ) (e : ℤ) → T (fits f (fin s m e)) → (n : ℕ) × (m * up e * 2 ^ low f ≡ n * down e)
+  in_units : (s : Bool) (m : ℕ) (e : ℤ) → T (fits f (fin s m e)) → (n : ℕ) × (m * up e * 2 ^ low f ≡ n * down e)
   unfolding fits
-  in-units s zero e h = (0, omega arith)
-  in-units s (suc m) (pos k) h = (suc m * 2 ^ k * 2 ^ low f, omega arith)
-  in-units s (suc m) (negsuc k) h =
+  in_units s zero e h = (0, omega arith)
+  in_units s (suc m) (pos k) h = (suc m * 2 ^ k * 2 ^ low f, omega arith)
+  in_units s (suc m) (negsuc k) h =
       let d : 2 ^ suc k ≤ 2 ^ low f = leb→le (2 ^ suc k) (2 ^ low f) (search (and_l, and_r)) in
       let l : low f - suc k + suc k ≡ low f = omega (arith, lt_of_not-le (λ (g : low f < suc k). omega (arith, pow-lt g))) in
       (suc m * 2 ^ (low f - suc k), rw (mul-one, mul_assoc, ← pow-add 2 (low f - suc k) (suc k), l))
 
   -- a sum a / c + b / c of whole numbers of smallest values is not -0.0, whatever the sign t of b
-  sum-plain : (t : Bool) (a b c x y : ℕ) → 0 < c → a * 2 ^ low f ≡ x * c → b * 2 ^ low f ≡ y * c → sum f false a t b c ≡ minusZero → ⊥
+  sum_plain : (t : Bool) (a b c x y : ℕ) → 0 < c → a * 2 ^ low f ≡ x * c → b * 2 ^ low f ≡ y * c → sum f false a t b c ≡ minus_zero → ⊥
   unfolding sum
-  sum-plain false a b c x y C p q k = round-plain false (a + b) c C (λ t. absurd t) k
-  sum-plain true a b c x y C p q k = go (ltb a b) (ltb→lt a b) k
+  sum_plain false a b c x y C p q k = round_plain false (a + b) c C (λ t. absurd t) k
+  sum_plain true a b c x y C p q k = go (ltb a b) (ltb→lt a b) k
     where
-      go : (z : Bool) → (T z → a < b) → cond z (round f true (b - a) c) (round f false (a - b) c) ≡ minusZero → ⊥
-      go true h k = round-plain true (b - a) c C (λ t. gap a b c (2 ^ low f) x y (pow_pos (low f)) (h t) p q) k
-      go false h k = round-plain false (a - b) c C (λ t. absurd t) k
+      go : (z : Bool) → (T z → a < b) → cond z (round f true (b - a) c) (round f false (a - b) c) ≡ minus_zero → ⊥
+      go true h k = round_plain true (b - a) c C (λ t. gap a b c (2 ^ low f) x y (pow_pos (low f)) (h t) p q) k
+      go false h k = round_plain false (a - b) c C (λ t. absurd t) k
 
   -- a sum whose first part has no minus sign is not -0.0
-  add-plain : (x y : Float) → T (fits f x) → T (fits f y) → add f (signed false x) y ≡ minusZero → ⊥
+  add_plain : (x y : Float) → T (fits f x) → T (fits f y) → add f (signed false x) y ≡ minus_zero → ⊥
   unfolding add
-  add-plain nan y u v k = let z : ◌≡◌ {A = ℕ} 0 1 = cc in omega arith
-  add-plain (inf s) nan u v k = let z : ◌≡◌ {A = ℕ} 0 1 = cc in omega arith
-  add-plain (inf s) (inf true) u v k = let z : ◌≡◌ {A = ℕ} 0 1 = cc in omega arith
-  add-plain (inf s) (inf false) u v k = let z : ◌≡◌ {A = ℕ} 0 1 = cc in omega arith
-  add-plain (inf s) (fin t n d) u v k = let z : ◌≡◌ {A = ℕ} 0 1 = cc in omega arith
-  add-plain (fin s m e) nan u v k = let z : ◌≡◌ {A = ℕ} 0 1 = cc in omega arith
-  add-plain (fin s m e) (inf t) u v k = let z : ◌≡◌ {A = ℕ} 0 1 = cc in omega arith
-  add-plain (fin s m e) (fin t n d) u v k =
-      let p = in-units s m e u in
-      let q = in-units t n d v in
-      sum-plain t _ _ (down e * down d) p.0 q.0 (mul-pos (down_pos e) (down_pos d))
+  add_plain nan y u v k = let z : ◌≡◌ {A = ℕ} 0 1 = cc in omega arith
+  add_plain (inf s) nan u v k = let z : ◌≡◌ {A = ℕ} 0 1 = cc in omega arith
+  add_plain (inf s) (inf true) u v k = let z : ◌≡◌ {A = ℕ} 0 1 = cc in omega arith
+  add_plain (inf s) (inf false) u v k = let z : ◌≡◌ {A = ℕ} 0 1 = cc in omega arith
+  add_plain (inf s) (fin t n d) u v k = let z : ◌≡◌ {A = ℕ} 0 1 = cc in omega arith
+  add_plain (fin s m e) nan u v k = let z : ◌≡◌ {A = ℕ} 0 1 = cc in omega arith
+  add_plain (fin s m e) (inf t) u v k = let z : ◌≡◌ {A = ℕ} 0 1 = cc in omega arith
+  add_plain (fin s m e) (fin t n d) u v k =
+      let p = in_units s m e u in
+      let q = in_units t n d v in
+      sum_plain t _ _ (down e * down d) p.0 q.0 (mul-pos (down_pos e) (down_pos d))
       (omega (arith, ap (λ (z : ℕ). z * down d) p.1)) (omega (arith, ap (λ (z : ℕ). z * down e) q.1)) k
 
 -- the reading of a certificate that 20 does not refuse is never -0.0
-reading-plain : (c : Certificate) → refusesContents c ≡ false → reading_of c ≡ minusZero → ⊥
-unfolding refusesContents gaugeReading of_int
-reading-plain c ok k =
+reading_plain : (c : Certificate) → refuses_contents c ≡ false → reading_of c ≡ minus_zero → ⊥
+unfolding refuses_contents gauge_reading of_int
+reading_plain c ok k =
     let gain = float c.gain in
     let counts = of_int binary64 (pos c.counts) in
-    let g : gain ≡ signed false gain = above-plain gain (λ p. true≢false (rw (p, or-true) at ok)) in
+    let g : gain ≡ signed false gain = above_plain gain (λ p. true≢false (rw (p, or_true) at ok)) in
     let n : counts ≡ signed false counts = sym (signed_round binary64 false false c.counts 1) in
-    add-plain binary64 (mul binary64 gain counts) (float c.offset) (mul-fits binary64 gain counts) (of_bits-fits binary64 c.offset)
+    add_plain binary64 (mul binary64 gain counts) (float c.offset) (mul-fits binary64 gain counts) (of_bits-fits binary64 c.offset)
     (rw (g, n, signed_mul binary64 gain counts) at k)
 
 -- ---- of the whole call
 
 -- x is the reading of some certificate that 20 does not refuse
 abbrev SoundReading : Float → Type 0
-SoundReading x = (c : Certificate) × (refusesContents c ≡ false) × (reading_of c ≡ x)
+SoundReading x = (c : Certificate) × (refuses_contents c ≡ false) × (reading_of c ≡ x)
 
 -- what a call reads is that
 read-sound : (a : List ℕ) (base serial test : ℕ) (x : Float) (p : Bool) → certify a base serial test ≡ Read x p → SoundReading x
@@ -190,41 +190,41 @@ read-sound a base serial test x p h = go (check a base) h
     one c q =
         let n : Another ≡ Read x p → ⊥ = λ r. (let z : ◌≡◌ {A = ℕ} 0 1 = cc in omega arith) in
         let u : Unsound ≡ Read x p → ⊥ = λ r. (let z : ◌≡◌ {A = ℕ} 0 1 = cc in omega arith) in
-        let j = past (refusesContents c) Unsound _ (Read x p) u (past (refusesIdentity serial test c) Another _ (Read x p) n q).1 in
+        let j = past (refuses_contents c) Unsound _ (Read x p) u (past (refuses_identity serial test c) Another _ (Read x p) n q).1 in
         let e = j.1 in
         (c, j.0, cc)
 
-    ones : (es : List Entry) → certifiedIn a serial test es ≡ Read x p → SoundReading x
+    ones : (es : List Entry) → certified_in a serial test es ≡ Read x p → SoundReading x
     ones [] q = absurd (let z : ◌≡◌ {A = ℕ} 0 1 = cc in omega arith)
     ones (e ∷ []) q =
         let n : NotOne ≡ Read x p → ⊥ = λ r. (let z : ◌≡◌ {A = ℕ} 0 1 = cc in omega arith) in
-        one (certificateOf (liveAt a e).content) (past (not (eqb e.data_size certificateSize)) NotOne _ (Read x p) n q).1
+        one (certificate_of (live_at a e).content) (past (not (eqb e.data_size certificate_size)) NotOne _ (Read x p) n q).1
     ones (e ∷ f ∷ es) q = absurd (let z : ◌≡◌ {A = ℕ} 0 1 = cc in omega arith)
 
-    go : (c : Checked) → afterChecks c (certifiedIn a serial test (tagged certificateTag (entriesOf a))) ≡ Read x p → SoundReading x
-    go (checked.Accepted f) q = ones (tagged certificateTag (entriesOf a)) q
+    go : (c : Checked) → after_checks c (certified_in a serial test (tagged certificate_tag (entries_of a))) ≡ Read x p → SoundReading x
+    go (checked.Accepted f) q = ones (tagged certificate_tag (entries_of a)) q
     go (checked.Refused r) q = absurd (let z : ◌≡◌ {A = ℕ} 0 1 = cc in omega arith)
 
 -- the reading that a call answers is never -0.0
-pub never-negative-zero : (a : List ℕ) (base serial test : ℕ) (x : Float) (p : Bool) → certify a base serial test ≡ Read x p
-    → x ≡ minusZero → ⊥
-never-negative-zero a base serial test x p h k =
+pub never_negative_zero : (a : List ℕ) (base serial test : ℕ) (x : Float) (p : Bool) → certify a base serial test ≡ Read x p
+    → x ≡ minus_zero → ⊥
+never_negative_zero a base serial test x p h k =
     let s = read-sound a base serial test x p h in
-    reading-plain s.0 s.1 (s.2 ∙ k)
+    reading_plain s.0 s.1 (s.2 ∙ k)
 
 -- what is neither infinite nor no number is a number
-finite_number : (x : Float) → (notFinite x ≡ true → ⊥) → T (not (is_nan x))
-unfolding notFinite is_nan
+finite_number : (x : Float) → (not_finite x ≡ true → ⊥) → T (not (is_nan x))
+unfolding not_finite is_nan
 finite_number nan h = h refl
 finite_number (inf s) h = tt
 finite_number (fin s m e) h = tt
 
 -- it has a pattern of 64 bits, and no other has its value: all its bits are settled
-pub reading-bits : (a : List ℕ) (base serial test : ℕ) (x : Float) (p : Bool) → certify a base serial test ≡ Read x p
+pub reading_bits : (a : List ℕ) (base serial test : ℕ) (x : Float) (p : Bool) → certify a base serial test ≡ Read x p
     → (float (to_bits binary64 x) ≡ x) × ((n : ℕ) → n < 2 ^ 64 → float n ≡ x → n ≡ to_bits binary64 x)
-unfolding refusesContents gaugeReading
-reading-bits a base serial test x p h =
+unfolding refuses_contents gauge_reading
+reading_bits a base serial test x p h =
     let s = read-sound a base serial test x p h in
     let fitting : T (fits binary64 x) = subst (λ (y : Float). T (fits binary64 y)) s.2 (add-fits binary64 _ (float s.0.offset)) in
-    let number : T (not (is_nan x)) = finite_number x (λ q. true≢false (rw (s.2, q, or-true) at s.1)) in
+    let number : T (not (is_nan x)) = finite_number x (λ q. true≢false (rw (s.2, q, or_true) at s.1)) in
     (of_bits-to_bits binary64 x fitting, λ n l q. sym (rw q at (to_bits-of_bits binary64 n l (rw q number))))

@@ -14,37 +14,37 @@ use Rattle.rules.specs.declared.Facts.{Facts}
 use Rattle.rules.specs.declared.Checked.{Checked}
 use Rattle.rules.specs.declared.Checked.TheVariants.{Accepted, Refused}
 use Rattle.rules.specs.declared.Refusal.{Refusal}
-use Rattle.rules.specs.Area.{multiple8, usable, maxLength, maxAlignment, maxAddress}
-use Rattle.rules.specs.Header.{headerOf, currentVersion, leastAlignment}
+use Rattle.rules.specs.Area.{multiple8, usable, max_length, max_alignment, max_address}
+use Rattle.rules.specs.Header.{header_of, current_version, least_alignment}
 use Rattle.rules.specs.Edition.{Edition, current}
 use Rattle.rules.specs.Entries.{
   Walk,
   entries,
   broken,
-  wrongHeaderSize,
-  firstEntry,
+  wrong_header_size,
+  first_entry,
   walk,
   seen,
-  entriesOf,
-  liveCount,
-  voidCount,
+  entries_of,
+  live_count,
+  void_count,
   occurrence,
 }
 use Rattle.rules.specs.Refusals.{
-  refusesArea,
-  refusesShort,
-  refusesSignature,
-  refusesVersion,
-  refusesReadonly,
-  outsideAlignment,
-  refusesSizes,
-  refusesChecksum,
-  refusesTag,
+  refuses_area,
+  refuses_short,
+  refuses_signature,
+  refuses_version,
+  refuses_readonly,
+  outside_alignment,
+  refuses_sizes,
+  refuses_checksum,
+  refuses_tag,
 }
-use Rattle.rules.specs.Check.{walked, fieldsRefusal, headerRefusal, unless, checksOf}
+use Rattle.rules.specs.Check.{walked, fields_refusal, header_refusal, unless, checks_of}
 use Rattle.rules.specs.declared.Refusal.TheVariants.{Checksum, Tag}
 use Rattle.rules.specs.declared.Found.TheVariants as found
-use Rattle.rules.specs.Find.{found_at, afterCheck, findOf}
+use Rattle.rules.specs.Find.{found_at, after_check, find_of}
 use Rattle.laws.proofs.Walk.{header-least, neither, All, Inside, walk_inside, occurrence-inside}
 
 -- ---- tests
@@ -62,35 +62,35 @@ past false x y z n h = (refl, h)
 -- what a usable area keeps to
 pub record Usable (base len : ℕ) : Type 0 where
   pub base8 : base % 8 ≡ 0
-  pub reach : base + len ≤ maxAddress
-  pub short : len ≤ maxLength
+  pub reach : base + len ≤ max_address
+  pub short : len ≤ max_length
 
 -- an area that is not refused keeps to all of it
-pub usable-of : (base len : ℕ) → refusesArea base len ≡ false → Usable base len
-usable-of base len r =
-    let u = both_true (multiple8 base && leb (base + len) maxAddress) (leb len maxLength) (not-false (usable base len) r) in
-    let b = both_true (multiple8 base) (leb (base + len) maxAddress) u.0 in
+pub usable_of : (base len : ℕ) → refuses_area base len ≡ false → Usable base len
+usable_of base len r =
+    let u = both_true (multiple8 base && leb (base + len) max_address) (leb len max_length) (not-false (usable base len) r) in
+    let b = both_true (multiple8 base) (leb (base + len) max_address) u.0 in
     record { base8 = eqb-true _ _ b.0; reach = leb-true _ _ b.1; short = leb-true _ _ u.1 }
 
 -- what sizes that are not refused keep to, own being the edition's header size
 pub record Sizes (own : ℕ) (h : Header) (len : ℕ) : Type 0 where
-  pub header : wrongHeaderSize h.version own h.hdr_size ≡ false
-  pub least : leastAlignment ≤ h.alignment
-  pub most : h.alignment ≤ maxAlignment
+  pub header : wrong_header_size h.version own h.hdr_size ≡ false
+  pub least : least_alignment ≤ h.alignment
+  pub most : h.alignment ≤ max_alignment
   pub used8 : h.used_size % 8 ≡ 0
   pub total8 : h.total_size % 8 ≡ 0
-  pub first : firstEntry h ≤ h.used_size
+  pub first : first_entry h ≤ h.used_size
   pub used : h.used_size ≤ h.total_size
   pub total : h.total_size ≤ len
 
 -- sizes that are not refused keep to all of it
-sizes-of : (ed : Edition) (h : Header) (len : ℕ) → refusesSizes ed h len ≡ false → Sizes ed.headerSize h len
-sizes-of ed h len r =
-    let w : Bool = wrongHeaderSize h.version ed.headerSize h.hdr_size in
-    let o : Bool = outsideAlignment h.alignment in
+sizes_of : (ed : Edition) (h : Header) (len : ℕ) → refuses_sizes ed h len ≡ false → Sizes ed.header_size h len
+sizes_of ed h len r =
+    let w : Bool = wrong_header_size h.version ed.header_size h.hdr_size in
+    let o : Bool = outside_alignment h.alignment in
     let u₈ : Bool = multiple8 h.used_size in
     let t₈ : Bool = multiple8 h.total_size in
-    let f : Bool = ltb h.used_size (firstEntry h) in
+    let f : Bool = ltb h.used_size (first_entry h) in
     let u : Bool = ltb h.total_size h.used_size in
     let p₁ = neither (w || o || not u₈ || not t₈ || f || u) (ltb len h.total_size) r in
     let p₂ = neither (w || o || not u₈ || not t₈ || f) u p₁.0 in
@@ -98,7 +98,7 @@ sizes-of ed h len r =
     let p₄ = neither (w || o || not u₈) (not t₈) p₃.0 in
     let p₅ = neither (w || o) (not u₈) p₄.0 in
     let p₆ = neither w o p₅.0 in
-    let p₇ = neither (ltb h.alignment leastAlignment) (ltb maxAlignment h.alignment) p₆.1 in
+    let p₇ = neither (ltb h.alignment least_alignment) (ltb max_alignment h.alignment) p₆.1 in
     record {
       header = p₆.0;
       least = ltb-false _ _ p₇.0;
@@ -111,54 +111,54 @@ sizes-of ed h len r =
     }
 
 -- an edit that is not refused is of a list of version 1
-current-of : (editing : Bool) (version : ℕ) → (editing && ltb currentVersion version) ≡ false → (version ≡ 0 → ⊥) → editing ≡ true
-    → version ≡ currentVersion
-current-of true version h n e =
-    let l : version ≤ currentVersion = ltb-false currentVersion version h in
+current_of : (editing : Bool) (version : ℕ) → (editing && ltb current_version version) ≡ false → (version ≡ 0 → ⊥) → editing ≡ true
+    → version ≡ current_version
+current_of true version h n e =
+    let l : version ≤ current_version = ltb-false current_version version h in
     omega (arith, n)
-current-of false version h n e = absurd (let z : ◌≡◌ {A = ℕ} 0 1 = cc in omega arith)
+current_of false version h n e = absurd (let z : ◌≡◌ {A = ℕ} 0 1 = cc in omega arith)
 
 -- an edit of a list of version 1 is not refused
-current-holds : (editing : Bool) (version : ℕ) → (editing ≡ true → version ≡ currentVersion) → (editing && ltb currentVersion version) ≡ false
-current-holds true version h = let e : version ≡ currentVersion = h refl in le-ltb currentVersion version (omega arith)
-current-holds false version h = refl
+current_holds : (editing : Bool) (version : ℕ) → (editing ≡ true → version ≡ current_version) → (editing && ltb current_version version) ≡ false
+current_holds true version h = let e : version ≡ current_version = h refl in le-ltb current_version version (omega arith)
+current_holds false version h = refl
 
 -- ---- checks 1 to 6
 
 -- everything that they tell of a header at a base in an area of len bytes
 pub record SoundHeader (ed : Edition) (base len : ℕ) (h : Header) : Type 0 where
   pub usable : Usable base len
-  pub long : ed.headerSize ≤ len
+  pub long : ed.header_size ≤ len
   pub signed : h.signature ≡ ed.signature
   pub versioned : h.version ≡ 0 → ⊥
-  pub sizes : Sizes ed.headerSize h len
+  pub sizes : Sizes ed.header_size h len
 
 module _ (ed : Edition) (editing : Bool) (base len : ℕ) (h : Header) where
   -- what a header that is not refused tells; of an edit also that the version is 1
-  pub header-sound : headerRefusal ed editing base len h ≡ none → SoundHeader ed base len h × (editing ≡ true → h.version ≡ currentVersion)
-  unfolding headerRefusal fieldsRefusal
+  pub header-sound : header_refusal ed editing base len h ≡ none → SoundHeader ed base len h × (editing ≡ true → h.version ≡ current_version)
+  unfolding header_refusal fields_refusal
   header-sound k =
       let never : (r : Refusal) → some r ≡ none → ⊥ = λ r e. (let z : ◌≡◌ {A = ℕ} 0 1 = cc in omega arith) in
-      let p₁ = past (refusesArea base len) _ _ _ (never _) k in
-      let p₂ = past (refusesShort ed len) _ _ _ (never _) p₁.1 in
-      let p₃ = past (refusesSignature ed h) _ _ _ (never _) p₂.1 in
-      let p₄ = past (refusesVersion h) _ _ _ (never _) p₃.1 in
-      let p₅ = past (refusesReadonly editing h) _ _ _ (never _) p₄.1 in
-      let p₆ = past (refusesSizes ed h len) _ _ _ (never _) p₅.1 in
+      let p₁ = past (refuses_area base len) _ _ _ (never _) k in
+      let p₂ = past (refuses_short ed len) _ _ _ (never _) p₁.1 in
+      let p₃ = past (refuses_signature ed h) _ _ _ (never _) p₂.1 in
+      let p₄ = past (refuses_version h) _ _ _ (never _) p₃.1 in
+      let p₅ = past (refuses_readonly editing h) _ _ _ (never _) p₄.1 in
+      let p₆ = past (refuses_sizes ed h len) _ _ _ (never _) p₅.1 in
       let n = eqb-false h.version 0 p₄.0 in (
         record {
-          usable = usable-of base len p₁.0;
+          usable = usable_of base len p₁.0;
           long = ltb-false _ _ p₂.0;
           signed = eqb-true _ _ (not-false _ p₃.0);
           versioned = n;
-          sizes = sizes-of ed h len p₆.0;
+          sizes = sizes_of ed h len p₆.0;
         },
-        current-of editing h.version p₅.0 n,
+        current_of editing h.version p₅.0 n,
       )
 
   -- and a header that keeps to all of it is not refused
-  pub header-passes : SoundHeader ed base len h → (editing ≡ true → h.version ≡ currentVersion) → headerRefusal ed editing base len h ≡ none
-  unfolding headerRefusal fieldsRefusal
+  pub header-passes : SoundHeader ed base len h → (editing ≡ true → h.version ≡ current_version) → header_refusal ed editing base len h ≡ none
+  unfolding header_refusal fields_refusal
   header-passes s v =
       simp (
         eq-eqb _ _ s.usable.base8,
@@ -167,7 +167,7 @@ module _ (ed : Edition) (editing : Bool) (base len : ℕ) (h : Header) where
         le-ltb _ _ s.long,
         eq-eqb _ _ s.signed,
         ne_eqb _ _ s.versioned,
-        current-holds editing _ v,
+        current_holds editing _ v,
         s.sizes.header,
         le-ltb _ _ s.sizes.least,
         le-ltb _ _ s.sizes.most,
@@ -182,7 +182,7 @@ module _ (ed : Edition) (editing : Bool) (base len : ℕ) (h : Header) where
 
 -- everything that an accepted check of an edition's list tells
 pub record Sound (ed : Edition) (a : List ℕ) (base : ℕ) : Type 0 where
-  pub header : SoundHeader ed base (length a) (headerOf a)
+  pub header : SoundHeader ed base (length a) (header_of a)
   pub summed : ed.summed a ≡ true
   pub row : List Entry
   pub walked : walk a ≡ entries row
@@ -195,8 +195,8 @@ facts_of h es =
       used = h.used_size;
       total = h.total_size;
       alignment = h.alignment;
-      live = liveCount es;
-      voids = voidCount es;
+      live = live_count es;
+      voids = void_count es;
     }
 
 -- an accepted walk is not broken
@@ -205,99 +205,99 @@ accepted-walk h (entries es) f k = refl
 accepted-walk h (broken at) f k = absurd (let z : ◌≡◌ {A = ℕ} 0 1 = cc in omega arith)
 
 -- the answer behind a refusal that did not come
-not-refused : (o : Option Refusal) (x : Checked) (f : Facts) → unless o x ≡ Accepted f → (o ≡ none) × (x ≡ Accepted f)
-not-refused (some r) x f k = absurd (let z : ◌≡◌ {A = ℕ} 0 1 = cc in omega arith)
-not-refused none x f k = (refl, k)
+not_refused : (o : Option Refusal) (x : Checked) (f : Facts) → unless o x ≡ Accepted f → (o ≡ none) × (x ≡ Accepted f)
+not_refused (some r) x f k = absurd (let z : ◌≡◌ {A = ℕ} 0 1 = cc in omega arith)
+not_refused none x f k = (refl, k)
 
 module _ (ed : Edition) (editing : Bool) (a : List ℕ) (base : ℕ) where
   -- what an accepted check tells; of an admission to an edit also that the version is 1
-  pub sound : (f : Facts) → checksOf ed editing a base ≡ Accepted f
-      → Sound ed a base × (editing ≡ true → (headerOf a).version ≡ currentVersion)
-  unfolding checksOf
+  pub sound : (f : Facts) → checks_of ed editing a base ≡ Accepted f
+      → Sound ed a base × (editing ≡ true → (header_of a).version ≡ current_version)
+  unfolding checks_of
   sound f k =
       let never : Refused Checksum ≡ Accepted f → ⊥ = λ e. (let z : ◌≡◌ {A = ℕ} 0 1 = cc in omega arith) in
-      let p = not-refused (headerRefusal ed editing base (length a) (headerOf a)) _ f k in
-      let q = past (refusesChecksum ed a) _ _ _ never p.1 in
-      let s = header-sound ed editing base (length a) (headerOf a) p.0 in (
+      let p = not_refused (header_refusal ed editing base (length a) (header_of a)) _ f k in
+      let q = past (refuses_checksum ed a) _ _ _ never p.1 in
+      let s = header-sound ed editing base (length a) (header_of a) p.0 in (
         record {
           header = s.0;
           summed = not-false (ed.summed a) q.0;
           row = seen (walk a);
-          walked = accepted-walk (headerOf a) (walk a) f q.1;
+          walked = accepted-walk (header_of a) (walk a) f q.1;
         },
         s.1,
       )
 
   -- a list that keeps to all of it is accepted
-  pub accepts : (s : Sound ed a base) → (editing ≡ true → (headerOf a).version ≡ currentVersion)
-      → checksOf ed editing a base ≡ Accepted (facts_of (headerOf a) s.row)
-  unfolding checksOf
-  accepts s v = simp (header-passes ed editing base (length a) (headerOf a) s.header v, s.summed, s.walked)
+  pub accepts : (s : Sound ed a base) → (editing ≡ true → (header_of a).version ≡ current_version)
+      → checks_of ed editing a base ≡ Accepted (facts_of (header_of a) s.row)
+  unfolding checks_of
+  accepts s v = simp (header-passes ed editing base (length a) (header_of a) s.header v, s.summed, s.walked)
 
 -- the entries of a list are those of its walk
-pub entries-row : (a : List ℕ) (row : List Entry) → walk a ≡ entries row → entriesOf a ≡ row
-unfolding entriesOf
-entries-row a row h = ap seen h
+pub entries_row : (a : List ℕ) (row : List Entry) → walk a ≡ entries row → entries_of a ≡ row
+unfolding entries_of
+entries_row a row h = ap seen h
 
 -- ---- the entries of an accepted list
 
 module _ (ed : Edition) (a : List ℕ) (base : ℕ) (s : Sound ed a base) where
   -- each entry lies behind the header and before used_size
-  pub row_inside : All (Inside (firstEntry (headerOf a)) (headerOf a).used_size) s.row
+  pub row_inside : All (Inside (first_entry (header_of a)) (header_of a).used_size) s.row
   unfolding walk
-  row_inside = walk_inside (headerOf a).version a (headerOf a).used_size (firstEntry (headerOf a)) s.row s.walked
+  row_inside = walk_inside (header_of a).version a (header_of a).used_size (first_entry (header_of a)) s.row s.walked
 
   -- so does each occurrence of a tag
-  pub occurs-inside : (tag n : ℕ) (e : Entry) → occurrence tag n (entriesOf a) ≡ some e
-      → Inside (firstEntry (headerOf a)) (headerOf a).used_size e
-  occurs-inside tag n e h = occurrence-inside _ tag n s.row e row_inside (ap (occurrence tag n) (sym (entries-row a s.row s.walked)) ∙ h)
+  pub occurs_inside : (tag n : ℕ) (e : Entry) → occurrence tag n (entries_of a) ≡ some e
+      → Inside (first_entry (header_of a)) (header_of a).used_size e
+  occurs_inside tag n e h = occurrence-inside _ tag n s.row e row_inside (ap (occurrence tag n) (sym (entries_row a s.row s.walked)) ∙ h)
 
 -- the data that find answers lies within the area
-pub find-within : (ed : Edition) (a : List ℕ) (base tag n offset size : ℕ) → findOf ed a base tag n ≡ found.At offset size
+pub find-within : (ed : Edition) (a : List ℕ) (base tag n offset size : ℕ) → find_of ed a base tag n ≡ found.At offset size
     → offset + size ≤ length a
-unfolding findOf
-find-within ed a base tag n offset size h = go (checksOf ed false a base) refl h
+unfolding find_of
+find-within ed a base tag n offset size h = go (checks_of ed false a base) refl h
   where
-    at_entry : (s : Sound ed a base) (o : Option Entry) → occurrence tag n (entriesOf a) ≡ o → found_at o ≡ found.At offset size → offset + size ≤ length a
+    at_entry : (s : Sound ed a base) (o : Option Entry) → occurrence tag n (entries_of a) ≡ o → found_at o ≡ found.At offset size → offset + size ≤ length a
     at_entry s (some e) p k =
-        let i = occurs-inside ed a base s tag n e p in
+        let i = occurs_inside ed a base s tag n e p in
         let x : e.at + e.hdr_size ≡ offset = cc in
         let y : e.data_size ≡ size = cc in
         omega arith
     at_entry s none p k = absurd (let z : ◌≡◌ {A = ℕ} 0 1 = cc in omega arith)
 
-    go : (c : Checked) → checksOf ed false a base ≡ c
-        → afterCheck c (cond (refusesTag tag) (found.Refused Tag) (found_at (occurrence tag n (entriesOf a)))) ≡ found.At offset size
+    go : (c : Checked) → checks_of ed false a base ≡ c
+        → after_check c (cond (refuses_tag tag) (found.Refused Tag) (found_at (occurrence tag n (entries_of a)))) ≡ found.At offset size
         → offset + size ≤ length a
     go (Accepted f) p k =
         let never : found.Refused Tag ≡ found.At offset size → ⊥ = λ e. (let z : ◌≡◌ {A = ℕ} 0 1 = cc in omega arith) in
-        at_entry (sound ed false a base f p).0 (occurrence tag n (entriesOf a)) refl (past (refusesTag tag) _ _ _ never k).1
+        at_entry (sound ed false a base f p).0 (occurrence tag n (entries_of a)) refl (past (refuses_tag tag) _ _ _ never k).1
     go (Refused r) p k = absurd (let z : ◌≡◌ {A = ℕ} 0 1 = cc in omega arith)
 
 -- ---- the sizes of an accepted list
 
 module _ (ed : Edition) (a : List ℕ) (base : ℕ) (s : Sound ed a base) where
   -- its entries start behind a header's bytes
-  pub first-least : ed.headerSize ≤ firstEntry (headerOf a)
+  pub first-least : ed.header_size ≤ first_entry (header_of a)
   first-least =
       let z = s.header.sizes in
-      let k : ed.headerSize ≤ (headerOf a).hdr_size = header-least (headerOf a).version ed.headerSize _ z.header in
+      let k : ed.header_size ≤ (header_of a).hdr_size = header-least (header_of a).version ed.header_size _ z.header in
       omega arith
 
   -- and its used bytes are no fewer
-  pub used-least : ed.headerSize ≤ (headerOf a).used_size
+  pub used-least : ed.header_size ≤ (header_of a).used_size
   used-least = omega (arith, first-least, s.header.sizes.first)
 
   -- and lie within the area
-  pub used-most : (headerOf a).used_size ≤ length a
+  pub used-most : (header_of a).used_size ≤ length a
   used-most = omega (arith, s.header.sizes.used, s.header.sizes.total)
 
 -- ---- a list that is admitted to an edit or a conversion, with its header
 
 pub record AdmittedIn (ed : Edition) (a : List ℕ) (base : ℕ) (h : Header) : Type 0 where
-  pub header : h ≡ headerOf a
+  pub header : h ≡ header_of a
   pub sound : Sound ed a base
-  pub version : (headerOf a).version ≡ currentVersion
+  pub version : (header_of a).version ≡ current_version
 
 -- a current one
 abbrev pub Admitted : List ℕ → ℕ → Header → Type 0

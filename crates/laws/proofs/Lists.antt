@@ -20,16 +20,16 @@ use lib.Dec.{ltb}
 use borrow.Author.Tests.{ltb-true, ltb-false}
 use Rattle.wire.specs.Bytes.{field, le_bytes, splice}
 use Rattle.wire.proofs.Range.{Bytes}
-use Rattle.wire.proofs.Splice.{in_three, take-splice-all, take-splice-within}
-use Rattle.wire.proofs.Field.{length-leBytes, leBytes-field}
+use Rattle.wire.proofs.Splice.{in_three, take-splice_all, take-splice-within}
+use Rattle.wire.proofs.Field.{length-le_bytes, le_bytes-field}
 use Rattle.laws.proofs.Row.{Agree}
 
 -- ---- stretches
 
 -- a number spliced in where it was read changes nothing
-pub splice-own : (a : List ℕ) (at k : ℕ) → Bytes a → at + k ≤ length a → splice a at (le_bytes k (field a at k)) ≡ a
+pub splice_own : (a : List ℕ) (at k : ℕ) → Bytes a → at + k ≤ length a → splice a at (le_bytes k (field a at k)) ≡ a
 unfolding splice
-splice-own a at k b l = rw (length-leBytes, leBytes-field a at k b l) (in_three a at k)
+splice_own a at k b l = rw (length-le_bytes, le_bytes-field a at k b l) (in_three a at k)
 
 -- a list with a stretch reaches at least to the stretch
 pub length-splice-least : (a : List ℕ) (at : ℕ) (new : List ℕ) → at ≤ length a → at ≤ length (splice a at new)
@@ -60,7 +60,7 @@ take-splice-used a at new u n h l e = go (ltb u (at + length new)) refl
         let p : n ≡ at + length new = omega arith in
         let q : length (take u a) ≤ at + length new = rw (length-take-le u a l) (omega arith) in
         rw p
-        (take-splice-all a at new (omega arith)
+        (take-splice_all a at new (omega arith)
         ∙ rw (take-take at u a h, drop_of_length-le (take u a) q, append-nil))
 
 -- ---- parts
@@ -82,9 +82,9 @@ part-is a o l h g =
     (λ i x. let y : i < length l = omega arith in get_d_part a o (length l) i y ∙ g i y)
 
 -- a part depends only on its bytes
-pub part-agree : (d : ℕ) (a b : List ℕ) (o n : ℕ) → o + n ≤ length a → d + o + n ≤ length b → Agree d a b o (o + n)
+pub part_agree : (d : ℕ) (a b : List ℕ) (o n : ℕ) → o + n ≤ length a → d + o + n ≤ length b → Agree d a b o (o + n)
     → take n (drop o a) ≡ take n (drop (d + o) b)
-part-agree d a b o n ha hb g =
+part_agree d a b o n ha hb g =
     let p : length (take n (drop o a)) ≡ n = length_part a o n ha in
     let q : length (take n (drop (d + o) b)) ≡ n = length_part b (d + o) n hb in
     ext_get_or 0 (take n (drop o a)) (take n (drop (d + o) b)) (p ∙ sym q)

@@ -21,43 +21,43 @@ use mathlib.Core.List.{List, map, map-map, map_congr_left}
 use lib.Dec.{ltb, leb}
 use borrow.Author.Tests.{ltb-true, ltb-false, leb-true, leb-false}
 use Rattle.rules.specs.declared.Entry.{Entry}
-use Rattle.rules.specs.Entries.{dataOffset}
-use Rattle.rules.specs.Relocate.{in_block, newBase}
-use Rattle.rules.specs.Edition09.{growth, grownBase}
+use Rattle.rules.specs.Entries.{data_offset}
+use Rattle.rules.specs.Relocate.{in_block, new_base}
+use Rattle.rules.specs.Edition09.{growth, grown_base}
 use Rattle.laws.proofs.Row.{later}
 
 module _ (m base target : ℕ) (positive : 0 < m) where
   -- what holds in both cases holds
-  in-cases : (P : ℕ → Type 0) → (in_block m base target < target → P (in_block m base target + m))
-      → (target ≤ in_block m base target → P (in_block m base target)) → P (newBase m base target)
-  unfolding newBase
-  in-cases P f g = go (ltb (in_block m base target) target) refl
+  in_cases : (P : ℕ → Type 0) → (in_block m base target < target → P (in_block m base target + m))
+      → (target ≤ in_block m base target → P (in_block m base target)) → P (new_base m base target)
+  unfolding new_base
+  in_cases P f g = go (ltb (in_block m base target) target) refl
     where
       go : (b : Bool) → ltb (in_block m base target) target ≡ b → P (cond b (in_block m base target + m) (in_block m base target))
       go true h = f (ltb-true (in_block m base target) target h)
       go false h = g (ltb-false (in_block m base target) target h)
 
   -- it is not below the target base
-  pub newBase-least : target ≤ newBase m base target
-  newBase-least = in-cases (λ x. target ≤ x) (λ h. omega (arith, lt-div-mul-add {a = target} positive)) (λ h. h)
+  pub new_base-least : target ≤ new_base m base target
+  new_base-least = in_cases (λ x. target ≤ x) (λ h. omega (arith, lt-div-mul-add {a = target} positive)) (λ h. h)
 
   -- it equals the old base modulo m
-  pub newBase-mod : newBase m base target % m ≡ base % m
-  newBase-mod =
+  pub new_base-mod : new_base m base target % m ≡ base % m
+  new_base-mod =
       let block : in_block m base target % m ≡ base % m = mul-add-mod_self_right (target / m) m (base % m) ∙ mod-mod base m in
-      in-cases (λ x. x % m ≡ base % m) (λ h. add-mod_right (in_block m base target) m ∙ block) (λ h. block)
+      in_cases (λ x. x % m ≡ base % m) (λ h. add-mod_right (in_block m base target) m ∙ block) (λ h. block)
 
   -- it is less than m above the target base
-  pub newBase-near : newBase m base target < target + m
-  newBase-near = in-cases (λ x. x < target + m) (λ h. omega arith) (λ h. omega (arith, mod-lt base positive, div-mul-le_self target m))
+  pub new_base_near : new_base m base target < target + m
+  new_base_near = in_cases (λ x. x < target + m) (λ h. omega arith) (λ h. omega (arith, mod-lt base positive, div-mul-le_self target m))
 
   -- no lower address at or above the target base equals the old base modulo m
-  pub newBase-lowest : (x : ℕ) → target ≤ x → x % m ≡ base % m → newBase m base target ≤ x
-  newBase-lowest x h e =
+  pub new_base_lowest : (x : ℕ) → target ≤ x → x % m ≡ base % m → new_base m base target ≤ x
+  new_base_lowest x h e =
       let low : target / m * m ≤ target = div-mul-le_self target m in
       let b : target / m ≤ x / m = (le-div_iff_mul-le {x = target / m} {y = x} positive).1 (omega arith) in
       let same : x / m * m + base % m ≡ x = rw (← e) (div-add-mod' x m) in
-      in-cases (λ y. y ≤ x) (λ k. next k (leb (target / m + 1) (x / m)) refl b same) (λ k. omega (arith, same, mul-le-mul_right m b))
+      in_cases (λ y. y ≤ x) (λ k. next k (leb (target / m + 1) (x / m)) refl b same) (λ k. omega (arith, same, mul-le-mul_right m b))
     where
       next : in_block m base target < target → (c : Bool) → leb (target / m + 1) (x / m) ≡ c → target / m ≤ x / m
           → x / m * m + base % m ≡ x → in_block m base target + m ≤ x
@@ -76,30 +76,30 @@ shift-mod m x y k h = add-mod x k m ∙ ap (λ (r : ℕ). (r + k % m) % m) h ∙
 
 module _ (m base target : ℕ) (positive : 0 < m) where
   -- those eight bytes further on
-  grownBase-further : grownBase m base target + growth ≡ newBase m base (target + growth)
-  unfolding grownBase
-  grownBase-further = omega (arith, newBase-least m base (target + growth) positive)
+  grown_base_further : grown_base m base target + growth ≡ new_base m base (target + growth)
+  unfolding grown_base
+  grown_base_further = omega (arith, new_base-least m base (target + growth) positive)
 
   -- it is not below the target base
-  pub grownBase-least : target ≤ grownBase m base target
-  grownBase-least = omega (arith, grownBase-further, newBase-least m base (target + growth) positive)
+  pub grown_base-least : target ≤ grown_base m base target
+  grown_base-least = omega (arith, grown_base_further, new_base-least m base (target + growth) positive)
 
   -- eight bytes further on it equals the old base modulo m
-  pub grownBase-mod : (grownBase m base target + growth) % m ≡ base % m
-  grownBase-mod = rw grownBase-further (newBase-mod m base (target + growth) positive)
+  pub grown_base-mod : (grown_base m base target + growth) % m ≡ base % m
+  grown_base-mod = rw grown_base_further (new_base-mod m base (target + growth) positive)
 
   -- no lower address at or above the target base does so
-  pub grownBase-lowest : (x : ℕ) → target ≤ x → (x + growth) % m ≡ base % m → grownBase m base target ≤ x
-  grownBase-lowest x h e = omega (arith, grownBase-further, newBase-lowest m base (target + growth) positive (x + growth) (omega arith) e)
+  pub grown_base_lowest : (x : ℕ) → target ≤ x → (x + growth) % m ≡ base % m → grown_base m base target ≤ x
+  grown_base_lowest x h e = omega (arith, grown_base_further, new_base_lowest m base (target + growth) positive (x + growth) (omega arith) e)
 
 -- ---- data addresses
 
 -- entries that stand d bytes further on, in a list whose base with these d bytes equals the old one modulo m, keep theirs modulo m
-pub addresses-later : (m base newBase d : ℕ) (es : List Entry) → (newBase + d) % m ≡ base % m
-    → map (λ (e : Entry). (newBase + dataOffset e) % m) (map (later d) es) ≡ map (λ (e : Entry). (base + dataOffset e) % m) es
-addresses-later m base newBase d es h =
+pub addresses-later : (m base new_base d : ℕ) (es : List Entry) → (new_base + d) % m ≡ base % m
+    → map (λ (e : Entry). (new_base + data_offset e) % m) (map (later d) es) ≡ map (λ (e : Entry). (base + data_offset e) % m) es
+addresses-later m base new_base d es h =
     rw map-map
     (map_congr_left {l = es}
     (λ e x.
-    let o : newBase + dataOffset (later d e) ≡ newBase + d + dataOffset e = omega arith in
-    rw o (shift-mod m (newBase + d) base (dataOffset e) h)))
+    let o : new_base + data_offset (later d e) ≡ new_base + d + data_offset e = omega arith in
+    rw o (shift-mod m (new_base + d) base (data_offset e) h)))

@@ -10,9 +10,9 @@ use lib.ListN.{get_elem?, take, drop}
 use lib.Dec.{eqb, eqb-suc-zero}
 use Rattle.rules.specs.declared.Entry.{Entry}
 use Rattle.rules.specs.declared.certificate.Certified.TheVariants.{NotOne}
-use Rattle.rules.specs.Entries.{dataOffset, occurrence}
-use Rattle.rules.specs.Tags.{certificateSize}
-use Rattle.rules.specs.Certificate.{certificateOf, tagged, certified, certifiedIn}
+use Rattle.rules.specs.Entries.{data_offset, occurrence}
+use Rattle.rules.specs.Tags.{certificate_size}
+use Rattle.rules.specs.Certificate.{certificate_of, tagged, certified, certified_in}
 
 -- occurrence n of a tag is entry n of those that have it
 pub occurrence-tagged : (tag n : ℕ) (es : List Entry) → occurrence tag n es ≡ get_elem? (tagged tag es) n
@@ -27,15 +27,15 @@ occurrence-tagged tag n (e ∷ es) = go (eqb e.tag_id tag) n (λ k. occurrence-t
     go false n h = h n
 
 -- where there is no entry 0 there is no certificate
-pub first-none : (a : List ℕ) (serial test : ℕ) (es : List Entry) → get_elem? es 0 ≡ none → certifiedIn a serial test es ≡ NotOne
+pub first-none : (a : List ℕ) (serial test : ℕ) (es : List Entry) → get_elem? es 0 ≡ none → certified_in a serial test es ≡ NotOne
 first-none a serial test [] h = refl
 first-none a serial test (e ∷ es) h = absurd (let z : ◌≡◌ {A = ℕ} 0 1 = cc in omega arith)
 
 -- nor is there exactly one where there is an entry 1
-pub second-some : (a : List ℕ) (serial test : ℕ) (es : List Entry) (f : Entry) → get_elem? es 1 ≡ some f → certifiedIn a serial test es ≡ NotOne
-second-some a serial test [] f h = refl
-second-some a serial test (e ∷ []) f h = absurd (let z : ◌≡◌ {A = ℕ} 0 1 = cc in omega arith)
-second-some a serial test (e ∷ x ∷ es) f h = refl
+pub second_some : (a : List ℕ) (serial test : ℕ) (es : List Entry) (f : Entry) → get_elem? es 1 ≡ some f → certified_in a serial test es ≡ NotOne
+second_some a serial test [] f h = refl
+second_some a serial test (e ∷ []) f h = absurd (let z : ◌≡◌ {A = ℕ} 0 1 = cc in omega arith)
+second_some a serial test (e ∷ x ∷ es) f h = refl
 
 -- an entry 0 without an entry 1 is the only one
 pub only : (es : List Entry) (e : Entry) → get_elem? es 0 ≡ some e → get_elem? es 1 ≡ none → es ≡ e ∷ []
@@ -44,6 +44,6 @@ only (x ∷ []) e h k = cc
 only (x ∷ y ∷ es) e h k = absurd (let z : ◌≡◌ {A = ℕ} 0 1 = cc in omega arith)
 
 -- the only one, of the right length, is read from its 56 bytes
-pub sized : (a : List ℕ) (serial test : ℕ) (e : Entry) → e.data_size ≡ certificateSize
-    → certifiedIn a serial test (e ∷ []) ≡ certified serial test (certificateOf (take certificateSize (drop (dataOffset e) a)))
+pub sized : (a : List ℕ) (serial test : ℕ) (e : Entry) → e.data_size ≡ certificate_size
+    → certified_in a serial test (e ∷ []) ≡ certified serial test (certificate_of (take certificate_size (drop (data_offset e) a)))
 sized a serial test e h = rw h

@@ -19,57 +19,57 @@ use Rattle.rules.specs.declared.certificate.Certified.{Certified}
 use Rattle.rules.specs.declared.certificate.Certified.TheVariants as certified
 use Rattle.rules.specs.declared.Refusal.{Refusal}
 use Rattle.rules.specs.declared.Refusal.TheVariants as refusal
-use Rattle.rules.specs.Header.{headerOf}
-use Rattle.rules.specs.Entries.{entriesOf, occurrence}
+use Rattle.rules.specs.Header.{header_of}
+use Rattle.rules.specs.Entries.{entries_of, occurrence}
 use Rattle.rules.specs.Edition.{Edition, current}
-use Rattle.rules.specs.Refusals.{number_of, place_of, refusesTag, refusesTagAdd, refusesAlign, refusesTarget}
-use Rattle.rules.specs.Tags.{certificateTag, certificateSize, refusesShape}
-use Rattle.rules.specs.Check.{checksOf, checkAnswer}
-use Rattle.rules.specs.Find.{found_at, afterCheck, findOf, findAnswer}
-use Rattle.rules.specs.Outcome.{Outcome, refused, done, answer, doneAnswer, afterAdmission}
-use Rattle.rules.specs.Add.{entrySpan, room, takenVoid, addInVoid, addAtEnd, addAt, add}
-use Rattle.rules.specs.AddAligned.{alignedBytes, addAlignedAtEnd, addAligned}
-use Rattle.rules.specs.Void.{voidAt, void}
-use Rattle.rules.specs.Relocate.{shift, moveTo, relocate}
+use Rattle.rules.specs.Refusals.{number_of, place_of, refuses_tag, refuses_tag_add, refuses_align, refuses_target}
+use Rattle.rules.specs.Tags.{certificate_tag, certificate_size, refuses_shape}
+use Rattle.rules.specs.Check.{checks_of, check_answer}
+use Rattle.rules.specs.Find.{found_at, after_check, find_of, find_answer}
+use Rattle.rules.specs.Outcome.{Outcome, refused, done, answer, done_answer, after_admission}
+use Rattle.rules.specs.Add.{entry_span, room, taken_void, add_in_void, add_at_end, add_at, add}
+use Rattle.rules.specs.AddAligned.{aligned_bytes, add_aligned_at_end, add_aligned}
+use Rattle.rules.specs.Void.{void_at, void}
+use Rattle.rules.specs.Relocate.{shift, move_to, relocate}
 use Rattle.rules.specs.Tidy.{tidy}
 use Rattle.rules.specs.Scrub.{scrub}
-use Rattle.rules.specs.Edit.{Edit, toAdd, toAddAligned, toVoid, toRelocate, toTidy, toScrub, act}
-use Rattle.rules.specs.Demand3.{liveAt}
-use Rattle.rules.specs.Edition09.{edition09, growth, grownShift, convertTo, convert}
+use Rattle.rules.specs.Edit.{Edit, to_add, to_add_aligned, to_void, to_relocate, to_tidy, to_scrub, act}
+use Rattle.rules.specs.Demand3.{live_at}
+use Rattle.rules.specs.Edition09.{edition09, growth, grown_shift, convert_to, convert}
 use Rattle.rules.specs.Certificate.{
-  certificateOf,
+  certificate_of,
   tagged,
-  refusesIdentity,
-  refusesContents,
+  refuses_identity,
+  refuses_contents,
   judged,
-  certifiedIn,
-  afterChecks,
+  certified_in,
+  after_checks,
   certify,
-  certifiedAnswer,
+  certified_answer,
 }
 use Rattle.rules.specs.BadEntry.{EightFrom, PassedUp, PassedUp09, OnlyPassedUp, OnlyPassedUp09, ZeroElsewhere}
 use Rattle.laws.proofs.Check.{past}
-use Rattle.laws.proofs.Admission.{admission-refused, admission-before}
+use Rattle.laws.proofs.Admission.{admission-refused, admission_before}
 
 -- ---- the check's 8 is each call's
 
-pub passed-up : (a : List ℕ) (base at : ℕ) → PassedUp a base at
-unfolding findOf certify
-passed-up a base at =
+pub passed_up : (a : List ℕ) (base at : ℕ) → PassedUp a base at
+unfolding find_of certify
+passed_up a base at =
     record {
-      checked = λ k. ap checkAnswer k;
+      checked = λ k. ap check_answer k;
       found = λ k tag n. simp k;
       certified = λ k serial test. simp k;
       edited = λ k e. simp (admission-refused e a base (refusal.Entry at) k);
     }
 
-pub passed-up09 : (a : List ℕ) (base at : ℕ) → PassedUp09 a base at
-unfolding findOf convert
-passed-up09 a base at =
+pub passed_up09 : (a : List ℕ) (base at : ℕ) → PassedUp09 a base at
+unfolding find_of convert
+passed_up09 a base at =
     record {
-      checked = λ k. ap checkAnswer k;
+      checked = λ k. ap check_answer k;
       found = λ k tag n. simp k;
-      converted = λ k target targetBase. simp k;
+      converted = λ k target target_base. simp k;
     }
 
 -- ---- the numbers of a refusal
@@ -114,87 +114,87 @@ no_place r n = go (placed r)
 
 -- ---- no other answer has a place
 
-checked-elsewhere : (x : Checked) → ((checkAnswer x).number ≡ 8 → ⊥) → (checkAnswer x).at ≡ 0
-checked-elsewhere (Accepted f) n = refl
-checked-elsewhere (Refused r) n = no_place r n
+checked_elsewhere : (x : Checked) → ((check_answer x).number ≡ 8 → ⊥) → (check_answer x).at ≡ 0
+checked_elsewhere (Accepted f) n = refl
+checked_elsewhere (Refused r) n = no_place r n
 
-found-elsewhere : (x : Found) → ((findAnswer x).number ≡ 8 → ⊥) → (findAnswer x).at ≡ 0
-found-elsewhere (found.At offset size) n = refl
-found-elsewhere (found.Refused r) n = no_place r n
+found_elsewhere : (x : Found) → ((find_answer x).number ≡ 8 → ⊥) → (find_answer x).at ≡ 0
+found_elsewhere (found.At offset size) n = refl
+found_elsewhere (found.Refused r) n = no_place r n
 
-done-elsewhere : (x : Done) → ((doneAnswer x).number ≡ 8 → ⊥) → (doneAnswer x).at ≡ 0
-done-elsewhere (reply.Value value) n = refl
-done-elsewhere (reply.Refused r) n = no_place r n
+done_elsewhere : (x : Done) → ((done_answer x).number ≡ 8 → ⊥) → (done_answer x).at ≡ 0
+done_elsewhere (reply.Value value) n = refl
+done_elsewhere (reply.Refused r) n = no_place r n
 
-certified-elsewhere : (x : Certified) → ((certifiedAnswer x).number ≡ 8 → ⊥) → (certifiedAnswer x).at ≡ 0
-certified-elsewhere (certified.Read x pass) n = refl
-certified-elsewhere (certified.Refused r) n = no_place r n
-certified-elsewhere certified.NotOne n = refl
-certified-elsewhere certified.Another n = refl
-certified-elsewhere certified.Unsound n = refl
+certified_elsewhere : (x : Certified) → ((certified_answer x).number ≡ 8 → ⊥) → (certified_answer x).at ≡ 0
+certified_elsewhere (certified.Read x pass) n = refl
+certified_elsewhere (certified.Refused r) n = no_place r n
+certified_elsewhere certified.NotOne n = refl
+certified_elsewhere certified.Another n = refl
+certified_elsewhere certified.Unsound n = refl
 
-pub zero-elsewhere : ZeroElsewhere
-zero-elsewhere =
-    record { checked = checked-elsewhere; found = found-elsewhere; done = done-elsewhere; certified = certified-elsewhere }
+pub zero_elsewhere : ZeroElsewhere
+zero_elsewhere =
+    record { checked = checked_elsewhere; found = found_elsewhere; done = done_elsewhere; certified = certified_elsewhere }
 
 -- ---- each call's 8 is its check's
 
 -- an answer whose number is 8 is a refusal with its place
-checked-eight : (x : Checked) → (checkAnswer x).number ≡ 8 → x ≡ Refused (refusal.Entry (checkAnswer x).at)
-checked-eight (Accepted f) n = absurd (omega arith)
-checked-eight (Refused r) n = ap Refused (eight r n)
+checked_eight : (x : Checked) → (check_answer x).number ≡ 8 → x ≡ Refused (refusal.Entry (check_answer x).at)
+checked_eight (Accepted f) n = absurd (omega arith)
+checked_eight (Refused r) n = ap Refused (eight r n)
 
-found-eight : (x : Found) → (findAnswer x).number ≡ 8 → x ≡ found.Refused (refusal.Entry (findAnswer x).at)
-found-eight (found.At offset size) n = absurd (omega arith)
-found-eight (found.Refused r) n = ap found.Refused (eight r n)
+found_eight : (x : Found) → (find_answer x).number ≡ 8 → x ≡ found.Refused (refusal.Entry (find_answer x).at)
+found_eight (found.At offset size) n = absurd (omega arith)
+found_eight (found.Refused r) n = ap found.Refused (eight r n)
 
-certified-eight : (x : Certified) → (certifiedAnswer x).number ≡ 8 → x ≡ certified.Refused (refusal.Entry (certifiedAnswer x).at)
-certified-eight (certified.Read x pass) n = absurd (omega arith)
-certified-eight (certified.Refused r) n = ap certified.Refused (eight r n)
-certified-eight certified.NotOne n = absurd (omega arith)
-certified-eight certified.Another n = absurd (omega arith)
-certified-eight certified.Unsound n = absurd (omega arith)
+certified_eight : (x : Certified) → (certified_answer x).number ≡ 8 → x ≡ certified.Refused (refusal.Entry (certified_answer x).at)
+certified_eight (certified.Read x pass) n = absurd (omega arith)
+certified_eight (certified.Refused r) n = ap certified.Refused (eight r n)
+certified_eight certified.NotOne n = absurd (omega arith)
+certified_eight certified.Another n = absurd (omega arith)
+certified_eight certified.Unsound n = absurd (omega arith)
 
-done-eight : (o : Outcome) → (doneAnswer (answer o)).number ≡ 8 → o ≡ refused (refusal.Entry (doneAnswer (answer o)).at)
-done-eight (refused r) n = ap refused (eight r n)
-done-eight (done value bytes) n = absurd (omega arith)
+done_eight : (o : Outcome) → (done_answer (answer o)).number ≡ 8 → o ≡ refused (refusal.Entry (done_answer (answer o)).at)
+done_eight (refused r) n = ap refused (eight r n)
+done_eight (done value bytes) n = absurd (omega arith)
 
 module _ (at : ℕ) where
   -- what comes behind the check has no 8 of its own: then the check's answer is 8
-  from-check : (c : Checked) (x : Found) → (x ≡ found.Refused (refusal.Entry at) → ⊥) → afterCheck c x ≡ found.Refused (refusal.Entry at)
+  from-check : (c : Checked) (x : Found) → (x ≡ found.Refused (refusal.Entry at) → ⊥) → after_check c x ≡ found.Refused (refusal.Entry at)
       → c ≡ Refused (refusal.Entry at)
   from-check (Accepted f) x n k = absurd (n k)
   from-check (Refused r) x n k = let q : r ≡ refusal.Entry at = cc in ap Refused q
 
-  from-checks : (c : Checked) (x : Certified) → (x ≡ certified.Refused (refusal.Entry at) → ⊥)
-      → afterChecks c x ≡ certified.Refused (refusal.Entry at) → c ≡ Refused (refusal.Entry at)
-  from-checks (Accepted f) x n k = absurd (n k)
-  from-checks (Refused r) x n k = let q : r ≡ refusal.Entry at = cc in ap Refused q
+  from_checks : (c : Checked) (x : Certified) → (x ≡ certified.Refused (refusal.Entry at) → ⊥)
+      → after_checks c x ≡ certified.Refused (refusal.Entry at) → c ≡ Refused (refusal.Entry at)
+  from_checks (Accepted f) x n k = absurd (n k)
+  from_checks (Refused r) x n k = let q : r ≡ refusal.Entry at = cc in ap Refused q
 
   -- no refusal of find's own is 8
-  find-own : (tag : ℕ) (o : Option Entry) → cond (refusesTag tag) (found.Refused refusal.Tag) (found_at o) ≡ found.Refused (refusal.Entry at) → ⊥
-  find-own tag o k = go o (past (refusesTag tag) _ _ _ (λ e. (let z : ◌≡◌ {A = ℕ} 0 1 = cc in omega arith)) k).1
+  find_own : (tag : ℕ) (o : Option Entry) → cond (refuses_tag tag) (found.Refused refusal.Tag) (found_at o) ≡ found.Refused (refusal.Entry at) → ⊥
+  find_own tag o k = go o (past (refuses_tag tag) _ _ _ (λ e. (let z : ◌≡◌ {A = ℕ} 0 1 = cc in omega arith)) k).1
     where
       go : (o : Option Entry) → found_at o ≡ found.Refused (refusal.Entry at) → ⊥
       go (some e) q = (let z : ◌≡◌ {A = ℕ} 0 1 = cc in omega arith)
       go none q = (let z : ◌≡◌ {A = ℕ} 0 1 = cc in omega arith)
 
   -- none of the certificate's
-  certificate-own : (a : List ℕ) (serial test : ℕ) (es : List Entry) → certifiedIn a serial test es ≡ certified.Refused (refusal.Entry at) → ⊥
+  certificate_own : (a : List ℕ) (serial test : ℕ) (es : List Entry) → certified_in a serial test es ≡ certified.Refused (refusal.Entry at) → ⊥
   unfolding judged
-  certificate-own a serial test [] k = (let z : ◌≡◌ {A = ℕ} 0 1 = cc in omega arith)
-  certificate-own a serial test (e ∷ []) k =
-      let c : Certificate = certificateOf (liveAt a e).content in
-      let p = past (not (eqb e.data_size certificateSize)) _ _ _ (λ q. (let z : ◌≡◌ {A = ℕ} 0 1 = cc in omega arith)) k in
-      let p₂ = past (refusesIdentity serial test c) _ _ _ (λ q. (let z : ◌≡◌ {A = ℕ} 0 1 = cc in omega arith)) p.1 in
-      let p₃ = past (refusesContents c) _ _ _ (λ q. (let z : ◌≡◌ {A = ℕ} 0 1 = cc in omega arith)) p₂.1 in
+  certificate_own a serial test [] k = (let z : ◌≡◌ {A = ℕ} 0 1 = cc in omega arith)
+  certificate_own a serial test (e ∷ []) k =
+      let c : Certificate = certificate_of (live_at a e).content in
+      let p = past (not (eqb e.data_size certificate_size)) _ _ _ (λ q. (let z : ◌≡◌ {A = ℕ} 0 1 = cc in omega arith)) k in
+      let p₂ = past (refuses_identity serial test c) _ _ _ (λ q. (let z : ◌≡◌ {A = ℕ} 0 1 = cc in omega arith)) p.1 in
+      let p₃ = past (refuses_contents c) _ _ _ (λ q. (let z : ◌≡◌ {A = ℕ} 0 1 = cc in omega arith)) p₂.1 in
       let q = p₃.1 in
       let z : ◌≡◌ {A = ℕ} 0 1 = cc in
       omega arith
-  certificate-own a serial test (e ∷ f ∷ es) k = (let z : ◌≡◌ {A = ℕ} 0 1 = cc in omega arith)
+  certificate_own a serial test (e ∷ f ∷ es) k = (let z : ◌≡◌ {A = ℕ} 0 1 = cc in omega arith)
 
 -- a refusal that an act does not come to is its admission's
-pub from-admission : (r : Refusal) (c : Checked) (x : Outcome) → (x ≡ refused r → ⊥) → afterAdmission c x ≡ refused r → c ≡ Refused r
+pub from-admission : (r : Refusal) (c : Checked) (x : Outcome) → (x ≡ refused r → ⊥) → after_admission c x ≡ refused r → c ≡ Refused r
 from-admission r (Accepted f) x n k = absurd (n k)
 from-admission r (Refused s) x n k = let q : s ≡ r = cc in ap Refused q
 
@@ -208,71 +208,71 @@ module _ (x : Refusal) (apart : (n : ℕ) → 9 ≤ n → n ≤ 14 → n ≡ num
   not_done value bytes k = (let z : ◌≡◌ {A = ℕ} 0 1 = cc in omega arith)
 
   -- an act that has one test left, for ROOM
-  room-own : (b : Bool) (value : ℕ) (bytes : List ℕ) → cond b (refused refusal.Room) (done value bytes) ≡ refused x → ⊥
-  room-own b value bytes k = not_done value bytes (past b _ _ _ (another refusal.Room (omega arith) (omega arith)) k).1
+  room_own : (b : Bool) (value : ℕ) (bytes : List ℕ) → cond b (refused refusal.Room) (done value bytes) ≡ refused x → ⊥
+  room_own b value bytes k = not_done value bytes (past b _ _ _ (another refusal.Room (omega arith) (omega arith)) k).1
 
   -- none of an edit's
-  add-own : (a : List ℕ) (tag : ℕ) (content : List ℕ) (o : Option Entry) → addAt a tag content o ≡ refused x → ⊥
-  unfolding addInVoid addAtEnd
-  add-own a tag content (some e) k = not_done _ _ k
-  add-own a tag content none k = room-own (ltb (room a) (entrySpan (length content))) _ _ k
+  add_own : (a : List ℕ) (tag : ℕ) (content : List ℕ) (o : Option Entry) → add_at a tag content o ≡ refused x → ⊥
+  unfolding add_in_void add_at_end
+  add_own a tag content (some e) k = not_done _ _ k
+  add_own a tag content none k = room_own (ltb (room a) (entry_span (length content))) _ _ k
 
-  void-own : (a : List ℕ) (o : Option Entry) → voidAt a o ≡ refused x → ⊥
-  void-own a (some e) k = not_done _ _ k
-  void-own a none k = another refusal.None (omega arith) (omega arith) k
+  void_own : (a : List ℕ) (o : Option Entry) → void_at a o ≡ refused x → ⊥
+  void_own a (some e) k = not_done _ _ k
+  void_own a none k = another refusal.None (omega arith) (omega arith) k
 
-  pub act-own : (e : Edit) (a : List ℕ) (base : ℕ) → act e a base ≡ refused x → ⊥
-  unfolding add addAligned addAlignedAtEnd void relocate moveTo tidy scrub
-  act-own (toAdd tag content useVoids) a base k =
-      let p = past (refusesTagAdd tag) _ _ _ (another refusal.Tag (omega arith) (omega arith)) k in
-      add-own a tag content (takenVoid useVoids (length content) a)
-      (past (refusesShape tag (length content)) _ _ _ (another refusal.Shape (omega arith) (omega arith)) p.1).1
-  act-own (toAddAligned tag content exponent) a base k =
-      let p = past (refusesTagAdd tag) _ _ _ (another refusal.Tag (omega arith) (omega arith)) k in
-      let q = past (refusesShape tag (length content)) _ _ _ (another refusal.Shape (omega arith) (omega arith)) p.1 in
-      room-own (ltb (room a) (length (alignedBytes a base tag content exponent))) _ _
-      (past (refusesAlign exponent) _ _ _ (another refusal.Align (omega arith) (omega arith)) q.1).1
-  act-own (toVoid tag n) a base k =
-      void-own a (occurrence tag n (entriesOf a)) (past (refusesTag tag) _ _ _ (another refusal.Tag (omega arith) (omega arith)) k).1
-  act-own (toRelocate target targetBase) a base k =
-      room-own (ltb (length target) (shift a base targetBase + (headerOf a).used_size)) _ _
-      (past (refusesTarget targetBase (length target)) _ _ _ (another refusal.Target (omega arith) (omega arith)) k).1
-  act-own toTidy a base k = not_done _ _ k
-  act-own toScrub a base k = not_done _ _ k
+  pub act_own : (e : Edit) (a : List ℕ) (base : ℕ) → act e a base ≡ refused x → ⊥
+  unfolding add add_aligned add_aligned_at_end void relocate move_to tidy scrub
+  act_own (to_add tag content use_voids) a base k =
+      let p = past (refuses_tag_add tag) _ _ _ (another refusal.Tag (omega arith) (omega arith)) k in
+      add_own a tag content (taken_void use_voids (length content) a)
+      (past (refuses_shape tag (length content)) _ _ _ (another refusal.Shape (omega arith) (omega arith)) p.1).1
+  act_own (to_add_aligned tag content exponent) a base k =
+      let p = past (refuses_tag_add tag) _ _ _ (another refusal.Tag (omega arith) (omega arith)) k in
+      let q = past (refuses_shape tag (length content)) _ _ _ (another refusal.Shape (omega arith) (omega arith)) p.1 in
+      room_own (ltb (room a) (length (aligned_bytes a base tag content exponent))) _ _
+      (past (refuses_align exponent) _ _ _ (another refusal.Align (omega arith) (omega arith)) q.1).1
+  act_own (to_void tag n) a base k =
+      void_own a (occurrence tag n (entries_of a)) (past (refuses_tag tag) _ _ _ (another refusal.Tag (omega arith) (omega arith)) k).1
+  act_own (to_relocate target target_base) a base k =
+      room_own (ltb (length target) (shift a base target_base + (header_of a).used_size)) _ _
+      (past (refuses_target target_base (length target)) _ _ _ (another refusal.Target (omega arith) (omega arith)) k).1
+  act_own to_tidy a base k = not_done _ _ k
+  act_own to_scrub a base k = not_done _ _ k
 
   -- none of the conversion's
-  pub convert-own : (a : List ℕ) (by targetBase len : ℕ)
-      → cond (refusesTarget targetBase len) (refused refusal.Target) (convertTo a by len) ≡ refused x → ⊥
-  unfolding convertTo
-  convert-own a by targetBase len k =
-      room-own (ltb len (by + ((headerOf a).used_size + growth))) _ _
-      (past (refusesTarget targetBase len) _ _ _ (another refusal.Target (omega arith) (omega arith)) k).1
+  pub convert_own : (a : List ℕ) (by target_base len : ℕ)
+      → cond (refuses_target target_base len) (refused refusal.Target) (convert_to a by len) ≡ refused x → ⊥
+  unfolding convert_to
+  convert_own a by target_base len k =
+      room_own (ltb len (by + ((header_of a).used_size + growth))) _ _
+      (past (refuses_target target_base len) _ _ _ (another refusal.Target (omega arith) (omega arith)) k).1
 
 -- as 8 is
-entry-apart : (n : ℕ) → 9 ≤ n → n ≤ 14 → n ≡ 8 → ⊥
-entry-apart n l h e = omega arith
+entry_apart : (n : ℕ) → 9 ≤ n → n ≤ 14 → n ≡ 8 → ⊥
+entry_apart n l h e = omega arith
 
 find-from : (ed : Edition) (a : List ℕ) (base tag n : ℕ)
-    → EightFrom (checksOf ed false a base) (findAnswer (findOf ed a base tag n)).number (findAnswer (findOf ed a base tag n)).at
-unfolding findOf
-find-from ed a base tag n e = from-check _ _ _ (find-own _ tag (occurrence tag n (entriesOf a))) (found-eight _ e)
+    → EightFrom (checks_of ed false a base) (find_answer (find_of ed a base tag n)).number (find_answer (find_of ed a base tag n)).at
+unfolding find_of
+find-from ed a base tag n e = from-check _ _ _ (find_own _ tag (occurrence tag n (entries_of a))) (found_eight _ e)
 
-pub only-passed-up : (a : List ℕ) (base : ℕ) → OnlyPassedUp a base
+pub only_passed_up : (a : List ℕ) (base : ℕ) → OnlyPassedUp a base
 unfolding certify
-only-passed-up a base =
+only_passed_up a base =
     record {
-      checked = checked-eight _;
+      checked = checked_eight _;
       found = find-from current a base;
-      certified = λ serial test e. from-checks _ _ _ (certificate-own _ a serial test (tagged certificateTag (entriesOf a))) (certified-eight _ e);
-      edited = λ x e. admission-before x a base _ (λ d. omega (arith, ap number_of d)) (from-admission _ _ _ (act-own _ entry-apart x a base) (done-eight _ e));
+      certified = λ serial test e. from_checks _ _ _ (certificate_own _ a serial test (tagged certificate_tag (entries_of a))) (certified_eight _ e);
+      edited = λ x e. admission_before x a base _ (λ d. omega (arith, ap number_of d)) (from-admission _ _ _ (act_own _ entry_apart x a base) (done_eight _ e));
     }
 
-pub only-passed-up09 : (a : List ℕ) (base : ℕ) → OnlyPassedUp09 a base
+pub only_passed_up09 : (a : List ℕ) (base : ℕ) → OnlyPassedUp09 a base
 unfolding convert
-only-passed-up09 a base =
+only_passed_up09 a base =
     record {
-      checked = checked-eight _;
+      checked = checked_eight _;
       found = find-from edition09 a base;
-      converted = λ target targetBase e.
-          from-admission _ _ _ (convert-own _ entry-apart a (grownShift a base targetBase) targetBase (length target)) (done-eight _ e);
+      converted = λ target target_base e.
+          from-admission _ _ _ (convert_own _ entry_apart a (grown_shift a base target_base) target_base (length target)) (done_eight _ e);
     }

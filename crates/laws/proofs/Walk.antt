@@ -8,18 +8,18 @@ use mathlib.Core.Option.{some}
 use lib.Dec.{ltb, eqb}
 use borrow.Author.Tests.{eq-eqb, ne_eqb, eqb-true, ltb-false}
 use Rattle.rules.specs.declared.Entry.{Entry}
-use Rattle.rules.specs.Header.{entryHeaderSize}
+use Rattle.rules.specs.Header.{entry_header_size}
 use Rattle.rules.specs.Entries.{
   Walk,
   entries,
   broken,
   follow,
-  entryAt,
+  entry_at,
   span,
-  wrongHeaderSize,
-  badEntry,
-  walkIn,
-  walkFrom,
+  wrong_header_size,
+  bad_entry,
+  walk_in,
+  walk_from,
   occurrence,
 }
 
@@ -31,7 +31,7 @@ neither true y h = absurd (let z : ◌≡◌ {A = ℕ} 0 1 = cc in omega arith)
 neither false y h = (refl, h)
 
 -- a header size that is not wrong is at least `own`
-pub header-least : (version own size : ℕ) → wrongHeaderSize version own size ≡ false → own ≤ size
+pub header-least : (version own size : ℕ) → wrong_header_size version own size ≡ false → own ≤ size
 header-least version own size h = go (eqb version 1) (eqb size own) refl refl h
   where
     go : (v s : Bool) → eqb version 1 ≡ v → eqb size own ≡ s → (v && not s || not v && ltb size own) ≡ false → own ≤ size
@@ -41,82 +41,82 @@ header-least version own size h = go (eqb version 1) (eqb size own) refl refl h
 
 -- what an entry that breaks no rule keeps to
 pub record Bounded (left : ℕ) (e : Entry) : Type 0 where
-  pub least : entryHeaderSize ≤ e.hdr_size
+  pub least : entry_header_size ≤ e.hdr_size
   pub fits : span e ≤ left
 
 -- such an entry does
-pub bounded : (version left : ℕ) (e : Entry) → badEntry version left e ≡ false → Bounded left e
+pub bounded : (version left : ℕ) (e : Entry) → bad_entry version left e ≡ false → Bounded left e
 bounded version left e h =
-    let p = neither (wrongHeaderSize version entryHeaderSize e.hdr_size || ltb left (span e)) _ h in
-    let q = neither (wrongHeaderSize version entryHeaderSize e.hdr_size) (ltb left (span e)) p.0 in
-    record { least = header-least version entryHeaderSize e.hdr_size q.0; fits = ltb-false left (span e) q.1 }
+    let p = neither (wrong_header_size version entry_header_size e.hdr_size || ltb left (span e)) _ h in
+    let q = neither (wrong_header_size version entry_header_size e.hdr_size) (ltb left (span e)) p.0 in
+    record { least = header-least version entry_header_size e.hdr_size q.0; fits = ltb-false left (span e) q.1 }
 
 -- an entry takes eight bytes or more, so with fewer left there is none that breaks no rule
-pub bad-short : (version left : ℕ) (e : Entry) → left < entryHeaderSize → badEntry version left e ≡ true
-bad-short version left e h = go (badEntry version left e) refl
+pub bad_short : (version left : ℕ) (e : Entry) → left < entry_header_size → bad_entry version left e ≡ true
+bad_short version left e h = go (bad_entry version left e) refl
   where
-    go : (b : Bool) → badEntry version left e ≡ b → b ≡ true
+    go : (b : Bool) → bad_entry version left e ≡ b → b ≡ true
     go true p = refl
     go false p = let k : Bounded left e = bounded version left e p in absurd (omega arith)
 
 -- an entry is at the place where it was read
-pub entry_place : (a : List ℕ) (at : ℕ) → (entryAt a at).at ≡ at
-unfolding entryAt
+pub entry_place : (a : List ℕ) (at : ℕ) → (entry_at a at).at ≡ at
+unfolding entry_at
 entry_place a at = refl
 
 -- where the entry behind the one at a place starts
 abbrev pub next : List ℕ → ℕ → ℕ
-next a at = at + span (entryAt a at)
+next a at = at + span (entry_at a at)
 
 -- ---- the count of steps
 
 -- what follows an entry counts only where the entry breaks no rule
-follow-cong : (b : Bool) (at : ℕ) (e : Entry) (x y : Walk) → (b ≡ false → x ≡ y) → cond b (broken at) (follow e x) ≡ cond b (broken at) (follow e y)
-follow-cong true at e x y h = refl
-follow-cong false at e x y h = ap (follow e) (h refl)
+follow_cong : (b : Bool) (at : ℕ) (e : Entry) (x y : Walk) → (b ≡ false → x ≡ y) → cond b (broken at) (follow e x) ≡ cond b (broken at) (follow e y)
+follow_cong true at e x y h = refl
+follow_cong false at e x y h = ap (follow e) (h refl)
 
 -- any two counts that suffice give the same walk
-steps : (f g version : ℕ) (a : List ℕ) (u p : ℕ) → p ≤ u → u - p ≤ f → u - p ≤ g → walkIn f version a u p ≡ walkIn g version a u p
-unfolding walkIn
+steps : (f g version : ℕ) (a : List ℕ) (u p : ℕ) → p ≤ u → u - p ≤ f → u - p ≤ g → walk_in f version a u p ≡ walk_in g version a u p
+unfolding walk_in
 steps zero zero version a u p h hf hg = refl
 steps zero (suc g) version a u p h hf hg = let e : p ≡ u = omega arith in rw (eq-eqb p u e)
 steps (suc f) zero version a u p h hf hg = let e : p ≡ u = omega arith in rw (eq-eqb p u e)
 steps (suc f) (suc g) version a u p h hf hg =
     ap (cond (eqb p u) (entries []))
-    (follow-cong (badEntry version (u - p) (entryAt a p)) p (entryAt a p) _ _
+    (follow_cong (bad_entry version (u - p) (entry_at a p)) p (entry_at a p) _ _
     (λ ok.
-    let k : Bounded (u - p) (entryAt a p) = bounded version (u - p) (entryAt a p) ok in
+    let k : Bounded (u - p) (entry_at a p) = bounded version (u - p) (entry_at a p) ok in
     steps f g version a u (next a p) (omega arith) (omega arith) (omega arith)))
 
 -- ---- the walk, place by place
 
 module _ (version : ℕ) (a : List ℕ) (u : ℕ) where
   -- the list ends where the place equals used_size
-  pub walk_end : walkFrom version a u u ≡ entries []
-  unfolding walkFrom walkIn
+  pub walk_end : walk_from version a u u ≡ entries []
+  unfolding walk_from walk_in
   walk_end = let e : u - u ≡ 0 = omega arith in rw (e, eq-eqb u u refl)
 
   module _ (p : ℕ) (h : p < u) where
     -- one step: before used_size there is an entry, which breaks a rule or is followed by the rest
-    unfold-step : walkFrom version a u p
-        ≡ cond (badEntry version (u - p) (entryAt a p)) (broken p) (follow (entryAt a p) (walkIn (u - p - 1) version a u (next a p)))
-    unfolding walkFrom walkIn
-    unfold-step =
+    unfold_step : walk_from version a u p
+        ≡ cond (bad_entry version (u - p) (entry_at a p)) (broken p) (follow (entry_at a p) (walk_in (u - p - 1) version a u (next a p)))
+    unfolding walk_from walk_in
+    unfold_step =
         let e : u - p ≡ suc (u - p - 1) = omega arith in
-        ap (λ (n : ℕ). walkIn n version a u p) e ∙ rw (ne_eqb p u (λ q. omega arith))
+        ap (λ (n : ℕ). walk_in n version a u p) e ∙ rw (ne_eqb p u (λ q. omega arith))
 
     -- an entry that breaks a rule
-    pub walk-broken : badEntry version (u - p) (entryAt a p) ≡ true → walkFrom version a u p ≡ broken p
-    walk-broken b = rw (unfold-step, b)
+    pub walk-broken : bad_entry version (u - p) (entry_at a p) ≡ true → walk_from version a u p ≡ broken p
+    walk-broken b = rw (unfold_step, b)
 
     -- any other entry
-    pub walk-next : badEntry version (u - p) (entryAt a p) ≡ false
-        → walkFrom version a u p ≡ follow (entryAt a p) (walkFrom version a u (next a p))
-    unfolding walkFrom
+    pub walk-next : bad_entry version (u - p) (entry_at a p) ≡ false
+        → walk_from version a u p ≡ follow (entry_at a p) (walk_from version a u (next a p))
+    unfolding walk_from
     walk-next b =
-        let k : Bounded (u - p) (entryAt a p) = bounded version (u - p) (entryAt a p) b in
+        let k : Bounded (u - p) (entry_at a p) = bounded version (u - p) (entry_at a p) b in
         let s = steps (u - p - 1) (u - next a p) version a u (next a p) (omega arith) (omega arith) (omega arith) in
-        unfold-step ∙ rw b (ap (follow (entryAt a p)) s)
+        unfold_step ∙ rw b (ap (follow (entry_at a p)) s)
 
 -- ---- the entries of a walk
 
@@ -127,7 +127,7 @@ All P (e ∷ es) = P e × All P es
 
 -- where an entry of a walk from first up to used lies
 pub record Inside (first used : ℕ) (e : Entry) : Type 0 where
-  pub least : entryHeaderSize ≤ e.hdr_size
+  pub least : entry_header_size ≤ e.hdr_size
   pub behind : first ≤ e.at
   pub within : e.at + span e ≤ used
 
@@ -150,8 +150,8 @@ module _ (P : Entry → Type 0) where
 -- the walk from a place on gives the entries: it ends at used_size, or an entry that breaks no rule is followed by the others
 pub data Unbroken (version : ℕ) (a : List ℕ) (used : ℕ) : ℕ → List Entry → Type 0 where
   ends : {at : ℕ} → at ≡ used → Unbroken version a used at []
-  goes : {at : ℕ} {row : List Entry} → badEntry version (used - at) (entryAt a at) ≡ false
-      → Unbroken version a used (next a at) row → Unbroken version a used at (entryAt a at ∷ row)
+  goes : {at : ℕ} {row : List Entry} → bad_entry version (used - at) (entry_at a at) ≡ false
+      → Unbroken version a used (next a at) row → Unbroken version a used at (entry_at a at ∷ row)
 
 module _ (version : ℕ) (a : List ℕ) (used : ℕ) where
   -- at used_size there is no entry
@@ -159,40 +159,40 @@ module _ (version : ℕ) (a : List ℕ) (used : ℕ) where
   ended at row h k = let q : [] ≡ row = cc in subst (Unbroken version a used at) q (ends (eqb-true at used h))
 
   -- any number of steps that gives entries does
-  unbroken-in : (n at : ℕ) (row : List Entry) → walkIn n version a used at ≡ entries row → Unbroken version a used at row
-  unfolding walkIn
-  unbroken-in zero at row k = go (eqb at used) refl k
+  unbroken_in : (n at : ℕ) (row : List Entry) → walk_in n version a used at ≡ entries row → Unbroken version a used at row
+  unfolding walk_in
+  unbroken_in zero at row k = go (eqb at used) refl k
     where
       go : (b : Bool) → eqb at used ≡ b → cond b (entries []) (broken at) ≡ entries row → Unbroken version a used at row
       go true h p = ended at row h p
       go false h p = absurd (let z : ◌≡◌ {A = ℕ} 0 1 = cc in omega arith)
-  unbroken-in (suc n) at row k =
-      go (eqb at used) (badEntry version (used - at) (entryAt a at)) (walkIn n version a used (next a at)) refl refl
-      (λ es. unbroken-in n (next a at) es) k
+  unbroken_in (suc n) at row k =
+      go (eqb at used) (bad_entry version (used - at) (entry_at a at)) (walk_in n version a used (next a at)) refl refl
+      (λ es. unbroken_in n (next a at) es) k
     where
-      go : (b c : Bool) (w : Walk) → eqb at used ≡ b → badEntry version (used - at) (entryAt a at) ≡ c
+      go : (b c : Bool) (w : Walk) → eqb at used ≡ b → bad_entry version (used - at) (entry_at a at) ≡ c
           → ((es : List Entry) → w ≡ entries es → Unbroken version a used (next a at) es)
-          → cond b (entries []) (cond c (broken at) (follow (entryAt a at) w)) ≡ entries row → Unbroken version a used at row
+          → cond b (entries []) (cond c (broken at) (follow (entry_at a at) w)) ≡ entries row → Unbroken version a used at row
       go true c w h e f p = ended at row h p
       go false true w h e f p = absurd (let z : ◌≡◌ {A = ℕ} 0 1 = cc in omega arith)
       go false false (broken x) h e f p = absurd (let z : ◌≡◌ {A = ℕ} 0 1 = cc in omega arith)
       go false false (entries es) h e f p =
-          let q : entryAt a at ∷ es ≡ row = cc in
+          let q : entry_at a at ∷ es ≡ row = cc in
           subst (Unbroken version a used at) q (goes e (f es refl))
 
   -- a walk that gives entries is not broken
-  pub unbroken : (at : ℕ) (row : List Entry) → walkFrom version a used at ≡ entries row → Unbroken version a used at row
-  unfolding walkFrom
-  unbroken at row h = unbroken-in (used - at) at row h
+  pub unbroken : (at : ℕ) (row : List Entry) → walk_from version a used at ≡ entries row → Unbroken version a used at row
+  unfolding walk_from
+  unbroken at row h = unbroken_in (used - at) at row h
 
   -- the entries of a walk that is not broken lie behind a place before it
   inside_of : (first : ℕ) {at : ℕ} {row : List Entry} → first ≤ at → Unbroken version a used at row → All (Inside first used) row
   inside_of first h (ends e) = tt
   inside_of first {at} h (goes b s) =
-      let g : Bounded (used - at) (entryAt a at) = bounded version (used - at) (entryAt a at) b in
-      let e : (entryAt a at).at ≡ at = entry_place a at in
+      let g : Bounded (used - at) (entry_at a at) = bounded version (used - at) (entry_at a at) b in
+      let e : (entry_at a at).at ≡ at = entry_place a at in
       (record { least = g.least; behind = omega arith; within = omega arith }, inside_of first (omega arith) s)
 
   -- each entry of an unbroken walk lies between its first place and used_size
-  pub walk_inside : (first : ℕ) (row : List Entry) → walkFrom version a used first ≡ entries row → All (Inside first used) row
+  pub walk_inside : (first : ℕ) (row : List Entry) → walk_from version a used first ≡ entries row → All (Inside first used) row
   walk_inside first row h = inside_of first (omega arith) (unbroken first row h)

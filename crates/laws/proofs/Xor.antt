@@ -11,12 +11,12 @@ use lib.Bits.{bit_xor, xor_comm, xor_self, xor_zero_l, xor_zero_r}
 use Rattle.wire.specs.Bytes.{field, le_bytes, xor, splice}
 use Rattle.wire.proofs.Range.{Bytes}
 use Rattle.wire.proofs.Xor.{xor_assoc, xor-append, xor-splice}
-use Rattle.wire.proofs.Field.{length-leBytes, leBytes-field}
+use Rattle.wire.proofs.Field.{length-le_bytes, le_bytes-field}
 use Rattle.rules.specs.Checksum.{without}
 
 -- a number taken in twice is out again
-xor-out : (p g q : ℕ) → bit_xor (bit_xor p (bit_xor g q)) g ≡ bit_xor p q
-xor-out p g q =
+xor_out : (p g q : ℕ) → bit_xor (bit_xor p (bit_xor g q)) g ≡ bit_xor p q
+xor_out p g q =
     xor_assoc p (bit_xor g q) g
     ∙ ap (bit_xor p) (xor_comm (bit_xor g q) g ∙ sym (xor_assoc g g q) ∙ ap (λ (x : ℕ). bit_xor x q) (xor_self g) ∙ xor_zero_l q)
 
@@ -28,17 +28,17 @@ xor-without l i h =
     let q : List ℕ = drop (suc i) l in
     ap (λ (n : ℕ). xor (p ++ drop n l)) (add_comm 1 i ∙ add-one i)
     ∙ xor-append p q
-    ∙ sym (xor-out (xor p) (get_or l i 0) (xor q))
+    ∙ sym (xor_out (xor p) (get_or l i 0) (xor q))
     ∙ ap (λ (x : ℕ). bit_xor x (get_or l i 0)) (sym (ap xor (split_at l i 0 h) ∙ xor-append p (get_or l i 0 ∷ q)))
 
 -- the exclusive or of a byte is the byte
-pub xor-byte : (n : ℕ) → n < 256 → xor (le_bytes 1 n) ≡ n
+pub xor_byte : (n : ℕ) → n < 256 → xor (le_bytes 1 n) ≡ n
 unfolding xor le_bytes
-xor-byte n h = xor_zero_r (n % 256) ∙ (let e : n % 256 ≡ n = omega arith in e)
+xor_byte n h = xor_zero_r (n % 256) ∙ (let e : n % 256 ≡ n = omega arith in e)
 
 -- a number spliced in changes the exclusive or by the bytes of the old number and of the new one
-pub xor-number : (a : List ℕ) (at k n : ℕ) → Bytes a → at + k ≤ length a
+pub xor_number : (a : List ℕ) (at k n : ℕ) → Bytes a → at + k ≤ length a
     → xor (splice a at (le_bytes k n)) ≡ bit_xor (xor a) (bit_xor (xor (le_bytes k (field a at k))) (xor (le_bytes k n)))
-xor-number a at k n b l =
-    let o : take (length (le_bytes k n)) (drop at a) ≡ le_bytes k (field a at k) = rw length-leBytes (sym (leBytes-field a at k b l)) in
+xor_number a at k n b l =
+    let o : take (length (le_bytes k n)) (drop at a) ≡ le_bytes k (field a at k) = rw length-le_bytes (sym (le_bytes-field a at k b l)) in
     xor-splice a at (le_bytes k n) ∙ rw o

@@ -7,15 +7,15 @@ use mathlib.Core.List.{List, [], ◌∷◌, ◌++◌}
 use lib.ListN.{length, take, drop, get_or, replicate, length-take, length-replicate, get_or-replicate}
 use lib.Dec.{leb, ltb}
 use borrow.Author.Tests.{leb-true, leb-false, ltb-true, ltb-false, le-leb, lt-ltb, le-ltb}
-use Rattle.wire.specs.Bytes.{splice, allZero}
-use Rattle.wire.proofs.Splice.{length-splice, getD-splice-before, getD-splice-in, getD-splice-behind}
-use Rattle.wire.proofs.Zeros.{all-zero-byte, all-zero-by}
-use Rattle.rules.specs.Leftovers.{Stretch, size, zeroIn, zeroed}
+use Rattle.wire.specs.Bytes.{splice, all_zero}
+use Rattle.wire.proofs.Splice.{length-splice, get_or-splice_before, get_or-splice_in, get_or-splice-behind}
+use Rattle.wire.proofs.Zeros.{all_zero_byte, all_zero_by}
+use Rattle.rules.specs.Leftovers.{Stretch, size, zero_in, zeroed}
 use Rattle.rules.specs.Demand3.{within, named}
 use Rattle.laws.proofs.Check.{both_true}
 use Rattle.laws.proofs.Lists.{get_d_part}
 use Rattle.laws.proofs.Differs.{Outside, Differs}
-use Rattle.laws.proofs.Tiles.{splice-written}
+use Rattle.laws.proofs.Tiles.{splice_written}
 
 -- ---- zeros
 
@@ -29,27 +29,27 @@ Zeros a [] = Unit
 Zeros a (s ∷ ss) = Zero a s × Zeros a ss
 
 -- that is what the rule's test says,
-pub zeros_of : (a : List ℕ) (ss : List Stretch) → zeroIn a ss ≡ true → Zeros a ss
-unfolding zeroIn
+pub zeros_of : (a : List ℕ) (ss : List Stretch) → zero_in a ss ≡ true → Zeros a ss
+unfolding zero_in
 zeros_of a [] h = tt
 zeros_of a (s ∷ ss) h =
-    let p = both_true (allZero (take (size s) (drop s.from a))) (zeroIn a ss) h in
+    let p = both_true (all_zero (take (size s) (drop s.from a))) (zero_in a ss) h in
     (zero p.0, zeros_of a ss p.1)
   where
-    zero : allZero (take (size s) (drop s.from a)) ≡ true → Zero a s
+    zero : all_zero (take (size s) (drop s.from a)) ≡ true → Zero a s
     zero k i low high =
         let e : s.from + (i - s.from) ≡ i = omega arith in
-        rw e at (sym (get_d_part a s.from (size s) (i - s.from) (omega arith)) ∙ all-zero-byte _ k (i - s.from))
+        rw e at (sym (get_d_part a s.from (size s) (i - s.from) (omega arith)) ∙ all_zero_byte _ k (i - s.from))
 
 -- and no more
-pub zeros_by : (a : List ℕ) (ss : List Stretch) → Zeros a ss → zeroIn a ss ≡ true
-unfolding zeroIn
+pub zeros_by : (a : List ℕ) (ss : List Stretch) → Zeros a ss → zero_in a ss ≡ true
+unfolding zero_in
 zeros_by a [] h = refl
 zeros_by a (s ∷ ss) h = rw (whole, zeros_by a ss h.1)
   where
-    whole : allZero (take (size s) (drop s.from a)) ≡ true
+    whole : all_zero (take (size s) (drop s.from a)) ≡ true
     whole =
-        all-zero-by _
+        all_zero_by _
         (λ i l.
         let y : i < size s = omega (arith, length-take (size s) (drop s.from a)) in
         get_d_part a s.from (size s) i y ∙ h.0 (s.from + i) (omega arith) (omega arith))
@@ -110,12 +110,12 @@ module _ (a : List ℕ) (s : Stretch) (h : Inside (length a) s) where
   zeros-long : length {A = ℕ} (replicate (size s) 0) ≡ size s
   zeros-long = length-replicate {A = ℕ} (size s) 0
 
-  blank-length : length (blank a s) ≡ length a
-  blank-length = length-splice a s.from (replicate (size s) 0) (omega (arith, zeros-long))
+  blank_length : length (blank a s) ≡ length a
+  blank_length = length-splice a s.from (replicate (size s) 0) (omega (arith, zeros-long))
 
   -- its bytes are 0 and the others as they were
-  blank-byte : (i : ℕ) → get_or (blank a s) i 0 ≡ cond (within s i) 0 (get_or a i 0)
-  blank-byte i = go (leb s.from i) (ltb i s.to) refl refl
+  blank_byte : (i : ℕ) → get_or (blank a s) i 0 ≡ cond (within s i) 0 (get_or a i 0)
+  blank_byte i = go (leb s.from i) (ltb i s.to) refl refl
     where
       new : List ℕ
       new = replicate (size s) 0
@@ -126,38 +126,38 @@ module _ (a : List ℕ) (s : Stretch) (h : Inside (length a) s) where
           let high : i < s.to = ltb-true _ _ q in
           let e : s.from + (i - s.from) ≡ i = omega arith in
           let n : i - s.from < size s = omega arith in
-          rw (p, q) (rw e at (getD-splice-in a s.from new (omega arith) (i - s.from) (omega (arith, zeros-long))
+          rw (p, q) (rw e at (get_or-splice_in a s.from new (omega arith) (i - s.from) (omega (arith, zeros-long))
           ∙ get_or-replicate (size s) (i - s.from) 0 0 n))
       go true false p q =
           let high : s.to ≤ i = ltb-false _ _ q in
-          rw (p, q) (getD-splice-behind a s.from new (omega arith) i (omega (arith, zeros-long)))
-      go false y p q = rw p (getD-splice-before a s.from new (omega arith) i (leb-false _ _ p))
+          rw (p, q) (get_or-splice-behind a s.from new (omega arith) i (omega (arith, zeros-long)))
+      go false y p q = rw p (get_or-splice_before a s.from new (omega arith) i (leb-false _ _ p))
 
   -- where they are 0 already, nothing changes
-  blank-again : Zero a s → blank a s ≡ a
-  blank-again z =
-      splice-written a s.from (replicate (size s) 0) (omega (arith, zeros-long))
+  blank_again : Zero a s → blank a s ≡ a
+  blank_again z =
+      splice_written a s.from (replicate (size s) 0) (omega (arith, zeros-long))
       (λ i l. let n : i < size s = omega (arith, zeros-long) in z (s.from + i) (omega arith) (omega arith) ∙ sym (get_or-replicate (size s) i 0 0 n))
 
 -- each stretch of as long a list lies in it too
-inside-same : (n m : ℕ) (ss : List Stretch) → n ≡ m → AllInside n ss → AllInside m ss
-inside-same n m ss e h = rw (← e) h
+inside_same : (n m : ℕ) (ss : List Stretch) → n ≡ m → AllInside n ss → AllInside m ss
+inside_same n m ss e h = rw (← e) h
 
 pub zeroed-length : (ss : List Stretch) (a : List ℕ) → AllInside (length a) ss → length (zeroed ss a) ≡ length a
 unfolding zeroed
 zeroed-length [] a h = refl
 zeroed-length (s ∷ ss) a h =
-    let l : length (blank a s) ≡ length a = blank-length a s h.0 in
-    zeroed-length ss (blank a s) (inside-same _ _ ss (sym l) h.1) ∙ l
+    let l : length (blank a s) ≡ length a = blank_length a s h.0 in
+    zeroed-length ss (blank a s) (inside_same _ _ ss (sym l) h.1) ∙ l
 
 -- a byte of one of the stretches is 0, any other as it was
-pub zeroed-byte : (ss : List Stretch) (a : List ℕ) → AllInside (length a) ss → (i : ℕ) → get_or (zeroed ss a) i 0 ≡ cond (named ss i) 0 (get_or a i 0)
+pub zeroed_byte : (ss : List Stretch) (a : List ℕ) → AllInside (length a) ss → (i : ℕ) → get_or (zeroed ss a) i 0 ≡ cond (named ss i) 0 (get_or a i 0)
 unfolding zeroed named
-zeroed-byte [] a h i = refl
-zeroed-byte (s ∷ ss) a h i =
-    let l : length (blank a s) ≡ length a = blank-length a s h.0 in
-    zeroed-byte ss (blank a s) (inside-same _ _ ss (sym l) h.1) i
-    ∙ ap (λ (x : ℕ). cond (named ss i) 0 x) (blank-byte a s h.0 i)
+zeroed_byte [] a h i = refl
+zeroed_byte (s ∷ ss) a h i =
+    let l : length (blank a s) ≡ length a = blank_length a s h.0 in
+    zeroed_byte ss (blank a s) (inside_same _ _ ss (sym l) h.1) i
+    ∙ ap (λ (x : ℕ). cond (named ss i) 0 x) (blank_byte a s h.0 i)
     ∙ go (named ss i) (within s i)
   where
     go : (x y : Bool) → cond x 0 (cond y 0 (get_or a i 0)) ≡ cond (y || x) 0 (get_or a i 0)
@@ -168,17 +168,17 @@ zeroed-byte (s ∷ ss) a h i =
 
 -- so the stretches are 0 afterwards,
 pub zeroed-zeros : (ss : List Stretch) (a : List ℕ) → AllInside (length a) ss → Zeros (zeroed ss a) ss
-zeroed-zeros ss a h = zeros-named (zeroed ss a) ss (λ i n. zeroed-byte ss a h i ∙ rw n)
+zeroed-zeros ss a h = zeros-named (zeroed ss a) ss (λ i n. zeroed_byte ss a h i ∙ rw n)
 
 -- every byte outside them is as it was,
-pub zeroed-differs : (ss : List Stretch) (a : List ℕ) → AllInside (length a) ss → Differs a (zeroed ss a) ss
-zeroed-differs ss a h i o = zeroed-byte ss a h i ∙ rw (not_named ss i o)
+pub zeroed_differs : (ss : List Stretch) (a : List ℕ) → AllInside (length a) ss → Differs a (zeroed ss a) ss
+zeroed_differs ss a h i o = zeroed_byte ss a h i ∙ rw (not_named ss i o)
 
 -- and where they are 0 already, nothing changes
 pub zeroed-again : (ss : List Stretch) (a : List ℕ) → AllInside (length a) ss → Zeros a ss → zeroed ss a ≡ a
 unfolding zeroed
 zeroed-again [] a h z = refl
-zeroed-again (s ∷ ss) a h z = ap (zeroed ss) (blank-again a s h.0 z.0) ∙ zeroed-again ss a h.1 z.1
+zeroed-again (s ∷ ss) a h z = ap (zeroed ss) (blank_again a s h.0 z.0) ∙ zeroed-again ss a h.1 z.1
 
 -- some stretches zeroed and then others
 pub zeroed-append : (ss ts : List Stretch) (a : List ℕ) → zeroed (ss ++ ts) a ≡ zeroed ts (zeroed ss a)

@@ -9,9 +9,9 @@ use lib.Dec.{eqb}
 use borrow.Author.Tests.{eqb-true, eq-eqb}
 use Rattle.rules.specs.declared.FindAnswer.{FindAnswer}
 use Rattle.devicetree.specs.declared.header.Header.{Header}
-use Rattle.devicetree.specs.Header.{cell, headerOf, headed}
+use Rattle.devicetree.specs.Header.{cell, header_of, headed}
 use Rattle.devicetree.specs.Structure.{Property, Node, node, Members, property, subnode, close}
-use Rattle.devicetree.specs.Tree.{structureOf, stringsOf, Tree}
+use Rattle.devicetree.specs.Tree.{structure_of, strings_of, Tree}
 use Rattle.devicetree.proofs.Deciding.{both}
 use Rattle.devicetree.proofs.TreeLaws.{order, structure-length}
 use Rattle.lookup.specs.declared.seek.Hit.{Hit}
@@ -28,16 +28,16 @@ use Rattle.lookup.specs.Lookup.{
   Item,
   item_at,
   within,
-  nodeItems,
-  memberItems,
-  rootItems,
+  node_items,
+  member_items,
+  root_items,
   properties,
   Wanted,
   First,
   here,
   later,
   found_at,
-  refusedWith,
+  refused_with,
   Lookup,
   broken,
   none,
@@ -46,7 +46,7 @@ use Rattle.lookup.specs.Lookup.{
 }
 use Rattle.lookup.specs.Search.{Looks, SameNames, SeeksRoot}
 use Rattle.lookup.proofs.PathLaws.{FirstName, first-name, part-end-only}
-use Rattle.lookup.proofs.ItemLaws.{looks-broken, looks-after, looks-found, first-only, first-without}
+use Rattle.lookup.proofs.ItemLaws.{looks_broken, looks_after, looks_found, first-only, first-without}
 
 -- ---- a path's names below the root
 
@@ -55,8 +55,8 @@ one_byte [] h e = absurd (omega arith)
 one_byte (x ∷ []) h e = ap (λ (y : ℕ). y ∷ []) e
 one_byte (x ∷ y ∷ l) h e = absurd (omega arith)
 
-one-slash : {path : List ℕ} → path ≡ slash ∷ [] → (length path ≡ 1) × (get_or path 0 0 ≡ slash)
-one-slash e = (ap length e, ap (λ (l : List ℕ). get_or l 0 0) e)
+one_slash : {path : List ℕ} → path ≡ slash ∷ [] → (length path ≡ 1) × (get_or path 0 0 ≡ slash)
+one_slash e = (ap length e, ap (λ (l : List ℕ). get_or l 0 0) e)
 
 -- `/` has no name below it
 root_below : {path : List ℕ} {c : List ℕ} {cs : List (List ℕ)} → path ≡ slash ∷ [] → Names path (c ∷ cs) → ⊥
@@ -83,7 +83,7 @@ names-below : (path : List ℕ) → 0 < length path → ((length path ≡ 1) × 
 names-below path h f = record { to = λ names p. go p; from = λ names n. back refl n }
   where
     go : {names : List (List ℕ)} → Path path names → Names path names
-    go (root u) = absurd (f (one-slash u))
+    go (root u) = absurd (f (one_slash u))
     go (below n) = n
 
     back : {l : List ℕ} {names : List (List ℕ)} → l ≡ path → Names l names → Path path names
@@ -94,56 +94,56 @@ names-long : {path : List ℕ} {c : List ℕ} {cs : List (List ℕ)} → Names p
 names-long (next u p r) = let l = ap length u in omega arith
 
 -- by the test of both
-pub names-tested : (path : List ℕ) → (eqb (length path) 1 && eqb (get_or path 0 0) slash) ≡ true → SameNames path (part path 1 (length path - 1))
-names-tested path e =
+pub names_tested : (path : List ℕ) → (eqb (length path) 1 && eqb (get_or path 0 0) slash) ≡ true → SameNames path (part path 1 (length path - 1))
+names_tested path e =
     let t = both (eqb (length path) 1) (eqb (get_or path 0 0) slash) e in
     let one = eqb-true (length path) 1 t.0 in
     subst (SameNames path) (sym (nothing_left path one)) (names-root one (eqb-true (get_or path 0 0) slash t.1))
 
-pub names-tested-other : (path : List ℕ) → 0 < length path → (eqb (length path) 1 && eqb (get_or path 0 0) slash) ≡ false → SameNames path path
-names-tested-other path h e =
+pub names_tested_other : (path : List ℕ) → 0 < length path → (eqb (length path) 1 && eqb (get_or path 0 0) slash) ≡ false → SameNames path path
+names_tested_other path h e =
     names-below path h (λ x. false≢true (sym e ∙ simp (eq-eqb (length path) 1 x.0, eq-eqb (get_or path 0 0) slash x.1)))
 
-pub no-path : {path : List ℕ} {names : List (List ℕ)} → length path ≡ 0 → Path path names → ⊥
-no-path h (root u) = let l = ap length u in omega arith
-no-path h (below n) = let l = names-long n in omega arith
+pub no_path : {path : List ℕ} {names : List (List ℕ)} → length path ≡ 0 → Path path names → ⊥
+no_path h (root u) = let l = ap length u in omega arith
+no_path h (below n) = let l = names-long n in omega arith
 
 -- ---- the answer
 
 -- the header of a tree
-pub tree-headed : {d : List ℕ} {h : Header} → Tree d → h ≡ headerOf d → headed h (length d) ≡ true
-tree-headed {d} x e = subst (λ (i : Header). headed i (length d) ≡ true) (sym e) x.blocks.header
+pub tree_headed : {d : List ℕ} {h : Header} → Tree d → h ≡ header_of d → headed h (length d) ≡ true
+tree_headed {d} x e = subst (λ (i : Header). headed i (length d) ≡ true) (sym e) x.blocks.header
 
 -- the structure's offset is within it
-pub structure-starts : {d s : List ℕ} {h : Header} → Tree d → h ≡ headerOf d → s ≡ structureOf d h → h.off_dt_struct ≤ length s
-structure-starts {d} {h = h} x e es = let l = ap length es ∙ structure-length d h (tree-headed x e) in omega arith
+pub structure-starts : {d s : List ℕ} {h : Header} → Tree d → h ≡ header_of d → s ≡ structure_of d h → h.off_dt_struct ≤ length s
+structure-starts {d} {h = h} x e es = let l = ap length es ∙ structure-length d h (tree_headed x e) in omega arith
 
-module _ {d path name rest : List ℕ} (X : Tree d) {h : Header} (e : h ≡ headerOf d) {s t : List ℕ} (es : s ≡ structureOf d h) (et : t ≡ stringsOf d h)
+module _ {d path name rest : List ℕ} (X : Tree d) {h : Header} (e : h ≡ header_of d) {s t : List ℕ} (es : s ≡ structure_of d h) (et : t ≡ strings_of d h)
     (N : SameNames path rest) {r : Hit} (S : SeeksRoot s t h.off_dt_struct rest name r) where
-  searched : SeeksRoot (structureOf d (headerOf d)) (stringsOf d (headerOf d)) (headerOf d).off_dt_struct rest name r
+  searched : SeeksRoot (structure_of d (header_of d)) (strings_of d (header_of d)) (header_of d).off_dt_struct rest name r
   searched =
       let a = subst (λ (i : List ℕ). SeeksRoot i t h.off_dt_struct rest name r) es S in
-      let b = subst (λ (i : List ℕ). SeeksRoot (structureOf d h) i h.off_dt_struct rest name r) et a in
-      subst (λ (i : Header). SeeksRoot (structureOf d i) (stringsOf d i) i.off_dt_struct rest name r) e b
+      let b = subst (λ (i : List ℕ). SeeksRoot (structure_of d h) i h.off_dt_struct rest name r) et a in
+      subst (λ (i : Header). SeeksRoot (structure_of d i) (strings_of d i) i.off_dt_struct rest name r) e b
 
   -- what it answers of any derivation
   every : (names : List (List ℕ)) → Path path names → (x : Tree d) → Looks (Wanted names name) x.blocks.structure.n (properties x) r
   every names p x = searched.finds names (N.to names p) x.blocks.structure.n x.blocks.structure.root
 
-  pub lookup-after : {k : ℕ} → r ≡ After k → Lookup d path name (refusedWith 13)
-  lookup-after R = none X (λ names p x. (looks-after (every names p x) R).1)
+  pub lookup_after : {k : ℕ} → r ≡ After k → Lookup d path name (refused_with 13)
+  lookup_after R = none X (λ names p x. (looks_after (every names p x) R).1)
 
-  pub lookup-broken : r ≡ Broken → Lookup d path name (refusedWith 13)
-  lookup-broken R = none X (λ names p x. absurd (looks-broken (every names p x) R))
+  pub lookup_broken : r ≡ Broken → Lookup d path name (refused_with 13)
+  lookup_broken R = none X (λ names p x. absurd (looks_broken (every names p x) R))
 
-  pub lookup-there : {o z : ℕ} → r ≡ Found o z → Lookup d path name (found_at o z)
-  lookup-there {o} {z} R =
+  pub lookup_there : {o z : ℕ} → r ≡ Found o z → Lookup d path name (found_at o z)
+  lookup_there {o} {z} R =
       let n = S.named o z R in
       let p = N.from n.names n.are in
-      there X p (λ x. looks-found (every n.names p x) R)
+      there X p (λ x. looks_found (every n.names p x) R)
 
-pub lookup-none : {d path name : List ℕ} → Tree d → length path ≡ 0 → Lookup d path name (refusedWith 13)
-lookup-none X h = none X (λ names p x. absurd (no-path h p))
+pub lookup_none : {d path name : List ℕ} → Tree d → length path ≡ 0 → Lookup d path name (refused_with 13)
+lookup_none X h = none X (λ names p x. absurd (no_path h p))
 
 -- ---- a value lies in the structure block
 
@@ -163,25 +163,25 @@ inside-first : {P : Item → Type 0} {e o z : ℕ} {xs : List Item} → Inside e
 inside-first (more h i) (here a b p) = omega arith
 inside-first (more h i) (later f l) = inside-first i l
 
-item-inside : {s t : List ℕ} {a n : ℕ} (v : Property s t a n) → (item_at s t a n v).offset + (item_at s t a n v).size ≤ length s
+item_inside : {s t : List ℕ} {a n : ℕ} (v : Property s t a n) → (item_at s t a n v).offset + (item_at s t a n v).size ≤ length s
 unfolding item_at
-item-inside v = let x = v.value.padding.next in let y = v.value.padding.inside in omega arith
+item_inside v = let x = v.value.padding.next in let y = v.value.padding.inside in omega arith
 
 module _ {s t : List ℕ} where
   mutual
-    unfolding memberItems
+    unfolding member_items
 
-    node-inside : {h at n : ℕ} (v : Node s t h at n) → Inside (length s) (nodeItems v)
-    node-inside (node {at = at} e w m) = inside-within (part s at (w.z - at)) (member-inside m)
+    node-inside : {h at n : ℕ} (v : Node s t h at n) → Inside (length s) (node_items v)
+    node-inside (node {at = at} e w m) = inside-within (part s at (w.z - at)) (member_inside m)
 
-    member-inside : {p : Bool} {d at n : ℕ} (m : Members s t p d at n) → Inside (length s) (memberItems m)
-    member-inside (property e k v m) = more (item-inside v) (member-inside m)
-    member-inside (subnode k v m) = inside-append (memberItems m) (node-inside v) (member-inside m)
-    member-inside (close k) = nothing
+    member_inside : {p : Bool} {d at n : ℕ} (m : Members s t p d at n) → Inside (length s) (member_items m)
+    member_inside (property e k v m) = more (item_inside v) (member_inside m)
+    member_inside (subnode k v m) = inside-append (member_items m) (node-inside v) (member_inside m)
+    member_inside (close k) = nothing
 
-  root-inside : {h at n : ℕ} (v : Node s t h at n) → Inside (length s) (rootItems v)
-  unfolding rootItems
-  root-inside (node e w m) = member-inside m
+  root-inside : {h at n : ℕ} (v : Node s t h at n) → Inside (length s) (root_items v)
+  unfolding root_items
+  root-inside (node e w m) = member_inside m
 
 cell-small : (d : List ℕ) (at : ℕ) → ((i : ℕ) → get_or d i 0 < 256) → cell d at < 4294967296
 unfolding cell
@@ -189,27 +189,27 @@ cell-small d at f = omega (arith, f at, f (at + 1), f (at + 2), f (at + 3))
 
 -- where the first one wanted of a tree has its value
 pub first-inside : {d : List ℕ} (x : Tree d) {P : Item → Type 0} {o z : ℕ} → First P o z (properties x)
-    → (o + z ≤ (headerOf d).off_dt_strings) × (o + z ≤ length d)
+    → (o + z ≤ (header_of d).off_dt_strings) × (o + z ≤ length d)
 first-inside {d} x l =
     let i = inside-first (root-inside x.blocks.structure.root.node) l in
-    let n = structure-length d (headerOf d) x.blocks.header in
-    let o = order (headerOf d) (length d) x.blocks.header in
+    let n = structure-length d (header_of d) x.blocks.header in
+    let o = order (header_of d) (length d) x.blocks.header in
     let a = o.structure in
     let b = o.strings in
     let c = o.within in
     (omega arith, omega arith)
 
-pub lookup-small : {d path name : List ℕ} {r : FindAnswer} → ((i : ℕ) → get_or d i 0 < 256) → Lookup d path name r
+pub lookup_small : {d path name : List ℕ} {r : FindAnswer} → ((i : ℕ) → get_or d i 0 < 256) → Lookup d path name r
     → (r.offset < 4294967296) × (r.size < 4294967296)
-unfolding headerOf
-lookup-small f (broken g) = (omega arith, omega arith)
-lookup-small f (none x g) = (omega arith, omega arith)
-lookup-small {d} f (there x p g) = let i = first-inside x (g x) in let s = cell-small d 12 f in (omega arith, omega arith)
+unfolding header_of
+lookup_small f (broken g) = (omega arith, omega arith)
+lookup_small f (none x g) = (omega arith, omega arith)
+lookup_small {d} f (there x p g) = let i = first-inside x (g x) in let s = cell-small d 12 f in (omega arith, omega arith)
 
-pub lookup-within : {d path name : List ℕ} {r : FindAnswer} → Lookup d path name r → r.offset + r.size ≤ length d
-lookup-within (broken f) = omega arith
-lookup-within (none x f) = omega arith
-lookup-within (there x p f) = (first-inside x (f x)).1
+pub lookup_within : {d path name : List ℕ} {r : FindAnswer} → Lookup d path name r → r.offset + r.size ≤ length d
+lookup_within (broken f) = omega arith
+lookup_within (none x f) = omega arith
+lookup_within (there x p f) = (first-inside x (f x)).1
 
 -- ---- the rule settles the answer
 
@@ -226,23 +226,23 @@ names-only {path} {path'} e (next {rest = l} {c = c} {cs = cs} u p r) (next {res
     let b : cs ≡ cs' = names-only m r r' in
     cc
 
-pub path-only : {path : List ℕ} {a b : List (List ℕ)} → Path path a → Path path b → a ≡ b
-path-only (root u) (root v) = refl
-path-only (root u) (below n) = absurd (root_below u n)
-path-only (below n) (root u) = absurd (root_below u n)
-path-only (below n) (below m) = names-only refl n m
+pub path_only : {path : List ℕ} {a b : List (List ℕ)} → Path path a → Path path b → a ≡ b
+path_only (root u) (root v) = refl
+path_only (root u) (below n) = absurd (root_below u n)
+path_only (below n) (root u) = absurd (root_below u n)
+path_only (below n) (below m) = names-only refl n m
 
-pub lookup-only : {d path name : List ℕ} {r q : FindAnswer} → Lookup d path name r → Lookup d path name q → r ≡ q
-lookup-only (broken f) (broken g) = refl
-lookup-only (broken f) (none x g) = absurd (f x)
-lookup-only (broken f) (there x p g) = absurd (f x)
-lookup-only (none x f) (broken g) = absurd (g x)
-lookup-only (none x f) (none y g) = refl
-lookup-only (none x f) (there {names = ns} y p g) = absurd (first-without (g x) (f ns p x))
-lookup-only (there x p f) (broken g) = absurd (g x)
-lookup-only (there {names = ns} x p f) (none y g) = absurd (first-without (f x) (g ns p x))
-lookup-only {name = name} (there {names = ns} {offset = o} {size = z} x p f) (there {names = ms} {offset = o'} {size = z'} y q g) =
-    let e = subst (λ (l : List (List ℕ)). First (Wanted l name) o' z' (properties x)) (path-only q p) (g x) in
+pub lookup_only : {d path name : List ℕ} {r q : FindAnswer} → Lookup d path name r → Lookup d path name q → r ≡ q
+lookup_only (broken f) (broken g) = refl
+lookup_only (broken f) (none x g) = absurd (f x)
+lookup_only (broken f) (there x p g) = absurd (f x)
+lookup_only (none x f) (broken g) = absurd (g x)
+lookup_only (none x f) (none y g) = refl
+lookup_only (none x f) (there {names = ns} y p g) = absurd (first-without (g x) (f ns p x))
+lookup_only (there x p f) (broken g) = absurd (g x)
+lookup_only (there {names = ns} x p f) (none y g) = absurd (first-without (f x) (g ns p x))
+lookup_only {name = name} (there {names = ns} {offset = o} {size = z} x p f) (there {names = ms} {offset = o'} {size = z'} y q g) =
+    let e = subst (λ (l : List (List ℕ)). First (Wanted l name) o' z' (properties x)) (path_only q p) (g x) in
     let s = first-only (f x) e in
     let a : o ≡ o' = s.0 in
     let b : z ≡ z' = s.1 in
@@ -251,7 +251,7 @@ lookup-only {name = name} (there {names = ns} {offset = o} {size = z} x p f) (th
 pub part-only : {d path name : List ℕ} {start address address' : ℕ} {bytes bytes' : List ℕ} → LookupPart d path name start bytes address
     → LookupPart d path name start bytes' address' → (bytes ≡ bytes') × (address ≡ address')
 part-only {d} {start = start} x y =
-    let e = lookup-only x.is y.is in (
+    let e = lookup_only x.is y.is in (
       x.contents ∙ ap (λ (r : FindAnswer). part d r.offset r.size) e ∙ sym y.contents,
       x.place ∙ ap (λ (r : FindAnswer). start + r.offset) e ∙ sym y.place,
     )

@@ -8,12 +8,12 @@ use Rattle.devicetree.specs.declared.bytes.Place.{Place}
 use Rattle.devicetree.specs.declared.bytes.Place.TheVariants.{At, Nowhere}
 use Rattle.devicetree.specs.declared.tokens.Next.{Next}
 use Rattle.devicetree.specs.declared.tokens.Next.TheVariants.{Is}
-use Rattle.devicetree.specs.Structure.{Name, Value, Node, Members, beginNode, endNode}
+use Rattle.devicetree.specs.Structure.{Name, Value, Node, Members, begin_node, end_node}
 use Rattle.devicetree.specs.Decided.{Decides, DecidesToken}
 use Rattle.devicetree.proofs.Deciding.{holds, only, never}
 use Rattle.devicetree.proofs.TokenLaws.{stands-bounds}
 use Rattle.devicetree.proofs.PartLaws.{name-bounds}
-use Rattle.devicetree.proofs.NodeLaws.{First, of-property, of-subnode, of-close, first_of, node-named}
+use Rattle.devicetree.proofs.NodeLaws.{First, of_property, of_subnode, of_close, first_of, node-named}
 use Rattle.lookup.specs.Search.{BehindNode, BehindMembers}
 
 -- members from p on, to n
@@ -29,8 +29,8 @@ Goes s d at p = (t : List ℕ) (f : Bool) (n : ℕ) → Members s t f d at n →
 abbrev pub Stops : (s : List ℕ) (d p : ℕ) → Type 0
 Stops s d p = (t : List ℕ) (f : Bool) (n : ℕ) → Members s t f d p n → ⊥
 
-pub goes-start : {s : List ℕ} {d at : ℕ} → Goes s d at at
-goes-start t f n m = record { flag = f; rest = m }
+pub goes_start : {s : List ℕ} {d at : ℕ} → Goes s d at at
+goes_start t f n m = record { flag = f; rest = m }
 
 -- ---- a node
 
@@ -50,8 +50,8 @@ skip-named N h i B =
       bounds = λ n e. let c = B.bounds n e in (omega arith, c.1);
     }
 
-pub nowhere-none : {s t : List ℕ} {d at n : ℕ} {r : Place} → BehindNode s d at r → r ≡ Nowhere → Node s t d at n → ⊥
-nowhere-none {t = t} {n = n} B e x = let y = B.finds t n x in let z : ◌≡◌ {A = ℕ} 0 1 = cc in omega arith
+pub nowhere_none : {s t : List ℕ} {d at n : ℕ} {r : Place} → BehindNode s d at r → r ≡ Nowhere → Node s t d at n → ⊥
+nowhere_none {t = t} {n = n} B e x = let y = B.finds t n x in let z : ◌≡◌ {A = ℕ} 0 1 = cc in omega arith
 
 -- ---- members
 
@@ -63,7 +63,7 @@ behind-none g h =
     }
 
 module _ {s : List ℕ} {p : ℕ} {r : Next} (T : DecidesToken s p r) {k a : ℕ} (q : r ≡ Is k a) {d : ℕ} where
-  pub behind-close : {at : ℕ} → at ≤ p → Goes s d at p → k ≡ endNode → BehindMembers s d at (At a)
+  pub behind-close : {at : ℕ} → at ≤ p → Goes s d at p → k ≡ end_node → BehindMembers s d at (At a)
   behind-close {at} h g e =
       let b = stands-bounds T q in
       record {
@@ -72,46 +72,46 @@ module _ {s : List ℕ} {p : ℕ} {r : Next} (T : DecidesToken s p r) {k a : ℕ
       }
     where
       go : {t : List ℕ} {f : Bool} {n : ℕ} → First s t f d k a n → At a ≡ At n
-      go (of-property u v m x w) = absurd (omega arith)
-      go (of-subnode u m x w) = absurd (omega arith)
-      go (of-close u v) = ap At (sym v)
+      go (of_property u v m x w) = absurd (omega arith)
+      go (of_subnode u m x w) = absurd (omega arith)
+      go (of_close u v) = ap At (sym v)
 
   -- a subnode
-  module _ (e : k ≡ beginNode) {o : Place} (B : BehindNode s d a o) where
+  module _ (e : k ≡ begin_node) {o : Place} (B : BehindNode s d a o) where
     pub stops-node : o ≡ Nowhere → Stops s d p
     stops-node j t f n m = go (first_of T q n m)
       where
         go : First s t f d k a n → ⊥
-        go (of-property u v m x w) = omega arith
-        go (of-subnode u m x w) = let y = B.finds t m x in let z : ◌≡◌ {A = ℕ} 0 1 = cc in omega arith
-        go (of-close u v) = omega arith
+        go (of_property u v m x w) = omega arith
+        go (of_subnode u m x w) = let y = B.finds t m x in let z : ◌≡◌ {A = ℕ} 0 1 = cc in omega arith
+        go (of_close u v) = omega arith
 
-    pub goes-node : {at m : ℕ} → Goes s d at p → o ≡ At m → Goes s d at m
-    goes-node {at} {m} g j t f n y = let x = g t f n y in go (first_of T q n x.rest)
+    pub goes_node : {at m : ℕ} → Goes s d at p → o ≡ At m → Goes s d at m
+    goes_node {at} {m} g j t f n y = let x = g t f n y in go (first_of T q n x.rest)
       where
         go : {f' : Bool} → First s t f' d k a n → Still s t d m n
-        go (of-property u v m' x w) = absurd (omega arith)
-        go (of-subnode u m' x w) =
+        go (of_property u v m' x w) = absurd (omega arith)
+        go (of_subnode u m' x w) =
             let l = B.finds t m' x in
             let l' : m' ≡ m = cc in
             subst (λ (i : ℕ). Still s t d i n) l' (record { flag = false; rest = w })
-        go (of-close u v) = absurd (omega arith)
+        go (of_close u v) = absurd (omega arith)
 
   -- anything else is a property
-  module _ (f₂ : k ≡ endNode → ⊥) (f₁ : k ≡ beginNode → ⊥) {o : Place} (D : Decides (Value s a) o) where
+  module _ (f₂ : k ≡ end_node → ⊥) (f₁ : k ≡ begin_node → ⊥) {o : Place} (D : Decides (Value s a) o) where
     pub stops-no-value : o ≡ Nowhere → Stops s d p
     stops-no-value h t f n m = go (first_of T q n m)
       where
         go : First s t f d k a n → ⊥
-        go (of-property u v m x w) = never D h m x.value
-        go (of-subnode u m x w) = f₁ u
-        go (of-close u v) = f₂ u
+        go (of_property u v m x w) = never D h m x.value
+        go (of_subnode u m x w) = f₁ u
+        go (of_close u v) = f₂ u
 
-    pub goes-value : {at m : ℕ} → Goes s d at p → o ≡ At m → Goes s d at m
-    goes-value {at} {m} g j t f n y = let x = g t f n y in go (first_of T q n x.rest)
+    pub goes_value : {at m : ℕ} → Goes s d at p → o ≡ At m → Goes s d at m
+    goes_value {at} {m} g j t f n y = let x = g t f n y in go (first_of T q n x.rest)
       where
         go : {f' : Bool} → First s t f' d k a n → Still s t d m n
-        go {f'} (of-property u v m' x w) =
+        go {f'} (of_property u v m' x w) =
             subst (λ (i : ℕ). Still s t d i n) (only D j m' x.value) (record { flag = f'; rest = w })
-        go (of-subnode u m' x w) = absurd (f₁ u)
-        go (of-close u v) = absurd (f₂ u)
+        go (of_subnode u m' x w) = absurd (f₁ u)
+        go (of_close u v) = absurd (f₂ u)

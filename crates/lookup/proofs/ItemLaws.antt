@@ -21,31 +21,31 @@ module _ {P : Item → Type 0} where
   first-behind ys nothing l = l
   first-behind ys (other f v) l = later f (first-behind ys v l)
 
-  pub looks-append : {n m o z : ℕ} {xs : List Item} (ys : List Item) {r : Hit} → Looks P n xs r → r ≡ Found o z
+  pub looks_append : {n m o z : ℕ} {xs : List Item} (ys : List Item) {r : Hit} → Looks P n xs r → r ≡ Found o z
       → Looks P m (xs ++ ys) (Found o z)
-  looks-append {m = m} {xs = xs} ys (found l) e = subst (Looks P m (xs ++ ys)) e (found (first-append ys l))
-  looks-append ys (after w) e = absurd (let z : ◌≡◌ {A = ℕ} 0 1 = cc in omega arith)
+  looks_append {m = m} {xs = xs} ys (found l) e = subst (Looks P m (xs ++ ys)) e (found (first-append ys l))
+  looks_append ys (after w) e = absurd (let z : ◌≡◌ {A = ℕ} 0 1 = cc in omega arith)
 
-  pub looks-behind : {n : ℕ} {xs : List Item} (ys : List Item) {r : Hit} → Without P xs → Looks P n ys r → Looks P n (xs ++ ys) r
-  looks-behind ys w (found l) = found (first-behind ys w l)
-  looks-behind ys w (after v) = after (without-append ys w v)
+  pub looks_behind : {n : ℕ} {xs : List Item} (ys : List Item) {r : Hit} → Without P xs → Looks P n ys r → Looks P n (xs ++ ys) r
+  looks_behind ys w (found l) = found (first-behind ys w l)
+  looks_behind ys w (after v) = after (without-append ys w v)
 
   -- ---- what a search's answer tells
 
-  pub looks-broken : {n : ℕ} {xs : List Item} {r : Hit} → Looks P n xs r → r ≡ Broken → ⊥
-  looks-broken (found l) e = let z : ◌≡◌ {A = ℕ} 0 1 = cc in omega arith
-  looks-broken (after w) e = let z : ◌≡◌ {A = ℕ} 0 1 = cc in omega arith
+  pub looks_broken : {n : ℕ} {xs : List Item} {r : Hit} → Looks P n xs r → r ≡ Broken → ⊥
+  looks_broken (found l) e = let z : ◌≡◌ {A = ℕ} 0 1 = cc in omega arith
+  looks_broken (after w) e = let z : ◌≡◌ {A = ℕ} 0 1 = cc in omega arith
 
-  pub looks-after : {n k : ℕ} {xs : List Item} {r : Hit} → Looks P n xs r → r ≡ After k → (n ≡ k) × Without P xs
-  looks-after (found l) e = absurd (let z : ◌≡◌ {A = ℕ} 0 1 = cc in omega arith)
-  looks-after (after w) e = (cc, w)
+  pub looks_after : {n k : ℕ} {xs : List Item} {r : Hit} → Looks P n xs r → r ≡ After k → (n ≡ k) × Without P xs
+  looks_after (found l) e = absurd (let z : ◌≡◌ {A = ℕ} 0 1 = cc in omega arith)
+  looks_after (after w) e = (cc, w)
 
-  pub looks-found : {n o z : ℕ} {xs : List Item} {r : Hit} → Looks P n xs r → r ≡ Found o z → First P o z xs
-  looks-found {o = o} {z = z} {xs = xs} (found {o = o'} {z = z'} l) e =
+  pub looks_found : {n o z : ℕ} {xs : List Item} {r : Hit} → Looks P n xs r → r ≡ Found o z → First P o z xs
+  looks_found {o = o} {z = z} {xs = xs} (found {o = o'} {z = z'} l) e =
       let a : o' ≡ o = cc in
       let b : z' ≡ z = cc in
       subst (λ (i : ℕ). First P i z xs) a (subst (λ (i : ℕ). First P o' i xs) b l)
-  looks-found (after w) e = absurd (let z : ◌≡◌ {A = ℕ} 0 1 = cc in omega arith)
+  looks_found (after w) e = absurd (let z : ◌≡◌ {A = ℕ} 0 1 = cc in omega arith)
 
   pub first-only : {o z o' z' : ℕ} {xs : List Item} → First P o z xs → First P o' z' xs → (o ≡ o') × (z ≡ z')
   first-only (here e f p) (here g h q) = (e ∙ sym g, f ∙ sym h)
@@ -74,21 +74,21 @@ module _ {P Q : Item → Type 0} (c : List ℕ) where
   first-within f g (later {y = y} h l) = later (λ q. h (f y q)) (first-within f g l)
 
   -- a search's answer inside a node is that outside it
-  pub looks-within : ((i : Item) → Q (within c i) → P i) → ((i : Item) → P i → Q (within c i)) → {n : ℕ} {xs : List Item} {r : Hit}
+  pub looks_within : ((i : Item) → Q (within c i) → P i) → ((i : Item) → P i → Q (within c i)) → {n : ℕ} {xs : List Item} {r : Hit}
       → Looks P n xs r → Looks Q n (map (within c) xs) r
-  looks-within f g (found l) = found (first-within f g l)
-  looks-within f g (after w) = after (without-within f w)
+  looks_within f g (found l) = found (first-within f g l)
+  looks_within f g (after w) = after (without-within f w)
 
 -- what is wanted inside a node, and outside it
 module _ {cs : List (List ℕ)} {name c c₀ : List ℕ} where
-  pub wanted-in : (i : Item) → Wanted (c₀ ∷ cs) name (within c i) → Wanted cs name i
-  wanted-in i w = let e : (c ∷ i.under) ≡ (c₀ ∷ cs) = w.stands in record { stands = cc; named = w.named }
+  pub wanted_in_lem : (i : Item) → Wanted (c₀ ∷ cs) name (within c i) → Wanted cs name i
+  wanted_in_lem i w = let e : (c ∷ i.under) ≡ (c₀ ∷ cs) = w.stands in record { stands = cc; named = w.named }
 
-  pub wanted-out : c ≡ c₀ → (i : Item) → Wanted cs name i → Wanted (c₀ ∷ cs) name (within c i)
-  wanted-out e i w = let p = w.stands in record { stands = cc; named = w.named }
+  pub wanted_out : c ≡ c₀ → (i : Item) → Wanted cs name i → Wanted (c₀ ∷ cs) name (within c i)
+  wanted_out e i w = let p = w.stands in record { stands = cc; named = w.named }
 
-  pub wanted-name : (i : Item) → Wanted (c₀ ∷ cs) name (within c i) → c ≡ c₀
-  wanted-name i w = let e : (c ∷ i.under) ≡ (c₀ ∷ cs) = w.stands in cc
+  pub wanted_name : (i : Item) → Wanted (c₀ ∷ cs) name (within c i) → c ≡ c₀
+  wanted_name i w = let e : (c ∷ i.under) ≡ (c₀ ∷ cs) = w.stands in cc
 
-pub wanted-none : {name c : List ℕ} (i : Item) → Wanted [] name (within c i) → ⊥
-wanted-none {name} {c} i w = let e : (c ∷ i.under) ≡ [] = w.stands in let z : ◌≡◌ {A = ℕ} 0 1 = cc in omega arith
+pub wanted_none : {name c : List ℕ} (i : Item) → Wanted [] name (within c i) → ⊥
+wanted_none {name} {c} i w = let e : (c ∷ i.under) ≡ [] = w.stands in let z : ◌≡◌ {A = ℕ} 0 1 = cc in omega arith

@@ -9,7 +9,7 @@ use Rattle.devicetree.specs.declared.bytes.Place.{Place}
 use Rattle.devicetree.specs.declared.bytes.Place.TheVariants.{At, Nowhere}
 use Rattle.devicetree.specs.Structure.{Ends}
 use Rattle.devicetree.specs.Decided.{Answers, Decides}
-use Rattle.devicetree.proofs.Deciding.{decided, holds, only, never, answers-same}
+use Rattle.devicetree.proofs.Deciding.{decided, holds, only, never, answers_same}
 use Rattle.lookup.specs.Lookup.{part, slash, PathName, Names, ended, next}
 use Rattle.lookup.specs.Search.{Named, PartEnd, Enters}
 
@@ -19,9 +19,9 @@ module _ {block : List ℕ} {at : ℕ} {r : Place} (D : Decides (Ends block at) 
   pub unnamed : r ≡ Nowhere → (w : List ℕ) → Named block at w → ⊥
   unnamed e w x = never D e x.z x.ends
 
-  pub named-same : {z : ℕ} {w : List ℕ} {b : _} → r ≡ At z → Answers (part block at (z - at) ≡ w) b → Answers (Named block at w) b
-  named-same {z} {w} e a =
-      answers-same
+  pub named_same : {z : ℕ} {w : List ℕ} {b : _} → r ≡ At z → Answers (part block at (z - at) ≡ w) b → Answers (Named block at w) b
+  named_same {z} {w} e a =
+      answers_same
       (λ x. record { z = z; ends = holds D e; is = x })
       (λ x. ap (λ (y : ℕ). part block at (y - at)) (sym (only D e x.z x.ends)) ∙ x.is)
       a
@@ -66,8 +66,8 @@ behind-first : (x : ℕ) (l : List ℕ) (k : ℕ) → 1 ≤ k → get_or (x ∷ 
 behind-first x l zero h = absurd (omega arith)
 behind-first x l (suc k) h = ap (λ (i : ℕ). get_or l i 0) (let e : k ≡ suc k - 1 = omega arith in e)
 
-first-name-of : (c rest : List ℕ) {cs : List (List ℕ)} → PathName c → Names rest cs → FirstName (slash ∷ (c ++ rest)) c rest
-first-name-of c rest p r =
+first-name_of : (c rest : List ℕ) {cs : List (List ℕ)} → PathName c → Names rest cs → FirstName (slash ∷ (c ++ rest)) c rest
+first-name_of c rest p r =
     let l = length-append c rest in
     let s = some-long c p.nonempty in
     record {
@@ -90,7 +90,7 @@ first-name-of c rest p r =
     }
 
 pub first-name : {path c rest : List ℕ} {cs : List (List ℕ)} → path ≡ slash ∷ (c ++ rest) → PathName c → Names rest cs → FirstName path c rest
-first-name {path} {c} {rest} u p r = subst (λ (l : List ℕ). FirstName l c rest) (sym u) (first-name-of c rest p r)
+first-name {path} {c} {rest} u p r = subst (λ (l : List ℕ). FirstName l c rest) (sym u) (first-name_of c rest p r)
 
 -- a path without bytes has no names
 pub names-none : {path : List ℕ} {names : List (List ℕ)} → length path ≡ 0 → Names path names → names ≡ []
@@ -120,10 +120,10 @@ names-cut {path} {e} x (next {c = c} {cs = cs} u p r) =
       left = subst (λ (l : List ℕ). Names l cs) (sym f.left ∙ ap (λ (i : ℕ). drop i path) q) r;
     }
 
-cut-path : (path : List ℕ) (e : ℕ) → get_or path 0 0 ≡ slash → e ≤ length path → 1 ≤ e → path ≡ slash ∷ (part path 1 (e - 1) ++ drop e path)
-cut-path [] e s i a = absurd (omega arith)
-cut-path (x ∷ l) zero s i a = absurd (omega arith)
-cut-path (x ∷ l) (suc e) s i a =
+cut_path : (path : List ℕ) (e : ℕ) → get_or path 0 0 ≡ slash → e ≤ length path → 1 ≤ e → path ≡ slash ∷ (part path 1 (e - 1) ++ drop e path)
+cut_path [] e s i a = absurd (omega arith)
+cut_path (x ∷ l) zero s i a = absurd (omega arith)
+cut_path (x ∷ l) (suc e) s i a =
     let q : suc e - 1 ≡ e = omega arith in
     let w : take (suc e - 1) l ++ drop e l ≡ l = ap (λ (j : ℕ). take j l ++ drop e l) q ∙ take-append-drop e l in
     ap (λ (y : ℕ). y ∷ l) s ∙ ap (λ (m : List ℕ). slash ∷ m) (sym w)
@@ -140,22 +140,22 @@ part-name (y ∷ l) e x h =
 
 pub cut-names : {path : List ℕ} {e : ℕ} {cs : List (List ℕ)} → get_or path 0 0 ≡ slash → PartEnd path e → 1 < e → Names (drop e path) cs
     → Names path (part path 1 (e - 1) ∷ cs)
-cut-names {path} {e} s x h r = next (cut-path path e s x.inside x.from) (part-name path e x h) r
+cut-names {path} {e} s x h r = next (cut_path path e s x.inside x.from) (part-name path e x h) r
 
 -- ---- a path that goes on with a node's name
 
 module _ {s : List ℕ} {at : ℕ} {path : List ℕ} where
-  pub enters-ended : length path ≡ 0 → (e : ℕ) → Enters s at path e → ⊥
-  enters-ended h e x = let a = x.to.from in let i = x.to.inside in omega arith
+  pub enters_ended : length path ≡ 0 → (e : ℕ) → Enters s at path e → ⊥
+  enters_ended h e x = let a = x.to.from in let i = x.to.inside in omega arith
 
   module _ {e : ℕ} (p : PartEnd path e) where
-    pub enters-empty : e ≡ 1 → (f : ℕ) → Enters s at path f → ⊥
-    enters-empty h f x = let q = part-end-only p x.to in let i = x.some in omega arith
+    pub enters_empty : e ≡ 1 → (f : ℕ) → Enters s at path f → ⊥
+    enters_empty h f x = let q = part-end-only p x.to in let i = x.some in omega arith
 
-    pub enters-other : (Named s at (part path 1 (e - 1)) → ⊥) → (f : ℕ) → Enters s at path f → ⊥
-    enters-other g f x = g (subst (λ (i : ℕ). Named s at (part path 1 (i - 1))) (part-end-only p x.to) x.named)
+    pub enters_other : (Named s at (part path 1 (e - 1)) → ⊥) → (f : ℕ) → Enters s at path f → ⊥
+    enters_other g f x = g (subst (λ (i : ℕ). Named s at (part path 1 (i - 1))) (part-end-only p x.to) x.named)
 
-    pub enters-found : get_or path 0 0 ≡ slash → (e ≡ 1 → ⊥) → Named s at (part path 1 (e - 1)) → Decides (Enters s at path) (At e)
-    enters-found h g n =
+    pub enters_found : get_or path 0 0 ≡ slash → (e ≡ 1 → ⊥) → Named s at (part path 1 (e - 1)) → Decides (Enters s at path) (At e)
+    enters_found h g n =
         let a = p.from in
         decided e (record { starts = h; to = p; some = omega arith; named = n }) (λ f x. part-end-only p x.to)

@@ -57,20 +57,20 @@ within c i = record { under = c ∷ i.under; name = i.name; offset = i.offset; s
 -- "in block order": the properties of a node, seen from outside and from inside it, and those of members
 module _ {s t : List ℕ} where
   unfoldable mutual
-    pub nodeItems : {h at n : ℕ} → Node s t h at n → List Item
-    nodeItems (node {at = at} e w m) = map (within (part s at (w.z - at))) (memberItems m)
+    pub node_items : {h at n : ℕ} → Node s t h at n → List Item
+    node_items (node {at = at} e w m) = map (within (part s at (w.z - at))) (member_items m)
 
-    pub memberItems : {p : Bool} {d at n : ℕ} → Members s t p d at n → List Item
-    memberItems (property {a = a} {m = m} e k v w) = item_at s t a m v ∷ memberItems w
-    memberItems (subnode k v w) = nodeItems v ++ memberItems w
-    memberItems (close k) = []
+    pub member_items : {p : Bool} {d at n : ℕ} → Members s t p d at n → List Item
+    member_items (property {a = a} {m = m} e k v w) = item_at s t a m v ∷ member_items w
+    member_items (subnode k v w) = node_items v ++ member_items w
+    member_items (close k) = []
 
-  unfoldable pub rootItems : {h at n : ℕ} → Node s t h at n → List Item
-  rootItems (node e w m) = memberItems m
+  unfoldable pub root_items : {h at n : ℕ} → Node s t h at n → List Item
+  root_items (node e w m) = member_items m
 
 -- those of a tree, seen from inside its root
 abbrev pub properties : {d : List ℕ} → Tree d → List Item
-properties x = rootItems x.blocks.structure.root.node
+properties x = root_items x.blocks.structure.root.node
 
 -- ---- the lookup
 
@@ -94,14 +94,14 @@ pub data Without (P : Item → Type 0) : List Item → Type 0 where
 abbrev pub found_at : ℕ → ℕ → FindAnswer
 found_at offset size = record { number = 0; offset = offset; size = size; at = 0 }
 
-abbrev pub refusedWith : ℕ → FindAnswer
-refusedWith number = record { number = number; offset = 0; size = 0; at = 0 }
+abbrev pub refused_with : ℕ → FindAnswer
+refused_with number = record { number = number; offset = 0; size = 0; at = 0 }
 
 -- "21 comes first, then NONE": none under any names that the path has; "any other path", which has none, so "finds nothing"
 pub data Lookup (d path name : List ℕ) : FindAnswer → Type 0 where
-  broken : (Tree d → ⊥) → Lookup d path name (refusedWith 21)
+  broken : (Tree d → ⊥) → Lookup d path name (refused_with 21)
   none : Tree d → ((names : List (List ℕ)) → Path path names → (x : Tree d) → Without (Wanted names name) (properties x))
-      → Lookup d path name (refusedWith 13)
+      → Lookup d path name (refused_with 13)
   there : {names : List (List ℕ)} {offset size : ℕ} → Tree d → Path path names
       → ((x : Tree d) → First (Wanted names name) offset size (properties x)) → Lookup d path name (found_at offset size)
 

@@ -6,7 +6,7 @@ use Rattle.devicetree.specs.Structure.{Ends, Node, Members}
 use Rattle.devicetree.specs.Tree.{Root}
 use Rattle.lookup.specs.declared.seek.Hit.{Hit}
 use Rattle.lookup.specs.declared.seek.Hit.TheVariants.{Found, After}
-use Rattle.lookup.specs.Lookup.{part, slash, Names, Path, Item, nodeItems, memberItems, rootItems, Wanted, First, Without}
+use Rattle.lookup.specs.Lookup.{part, slash, Names, Path, Item, node_items, member_items, root_items, Wanted, First, Without}
 
 -- the name that starts at a place of its block is w
 pub record Named (block : List ℕ) (at : ℕ) (w : List ℕ) : Type 0 where
@@ -54,17 +54,17 @@ pub record SameNames (path rest : List ℕ) : Type 0 where
 
 -- r is what a search answers of a node, with what is left of the path, whatever the path's names and the node's derivation
 pub record SeeksNode (s t : List ℕ) (d at : ℕ) (path name : List ℕ) (r : Hit) : Type 0 where
-  pub finds : (names : List (List ℕ)) → Names path names → (n : ℕ) (v : Node s t d at n) → Looks (Wanted names name) n (nodeItems v) r
+  pub finds : (names : List (List ℕ)) → Names path names → (n : ℕ) (v : Node s t d at n) → Looks (Wanted names name) n (node_items v) r
   pub named : (o z : ℕ) → r ≡ Found o z → HasNames path
   pub behind : (m : ℕ) → r ≡ After m → (at < m) × (m ≤ length s)
 
 -- of members
 pub record SeeksMembers (s t : List ℕ) (d at : ℕ) (path name : List ℕ) (r : Hit) : Type 0 where
-  pub finds : (names : List (List ℕ)) → Names path names → (n : ℕ) (m : Members s t true d at n) → Looks (Wanted names name) n (memberItems m) r
+  pub finds : (names : List (List ℕ)) → Names path names → (n : ℕ) (m : Members s t true d at n) → Looks (Wanted names name) n (member_items m) r
   pub named : (o z : ℕ) → r ≡ Found o z → HasNames path
   pub behind : (m : ℕ) → r ≡ After m → (at < m) × (m ≤ length s)
 
 -- and of a root
 pub record SeeksRoot (s t : List ℕ) (at : ℕ) (path name : List ℕ) (r : Hit) : Type 0 where
-  pub finds : (names : List (List ℕ)) → Names path names → (n : ℕ) (x : Root s t at n) → Looks (Wanted names name) n (rootItems x.node) r
+  pub finds : (names : List (List ℕ)) → Names path names → (n : ℕ) (x : Root s t at n) → Looks (Wanted names name) n (root_items x.node) r
   pub named : (o z : ℕ) → r ≡ Found o z → HasNames path

@@ -1,7 +1,7 @@
 // The lookup, in find's two forms.
 ghost use Rattle.std.specs.Prelude.{◌≡◌, ◌<◌, length};
 ghost use Rattle.devicetree.specs.Tree.{Tree};
-ghost use Rattle.lookup.specs.Lookup.{refusedWith, Lookup, LookupPart};
+ghost use Rattle.lookup.specs.Lookup.{refused_with, Lookup, LookupPart};
 
 use crate::seek::Hit;
 use crate::{names, seek};
@@ -14,7 +14,7 @@ const NONE: u32 = 13;
 
 // A refusal's answer.
 fn refused(number: u32) -> FindAnswer
-    ensures { result ≡ refusedWith number }
+    ensures { result ≡ refused_with number }
 {
     FindAnswer {
         number,

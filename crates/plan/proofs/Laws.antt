@@ -13,44 +13,44 @@ use Rattle.wire.specs.Bytes.{xor}
 use Rattle.wire.proofs.Range.{Bytes}
 use Rattle.wire.proofs.Xor.{xor-append, xor-zeros}
 use Rattle.wire.proofs.Splice.{drop-take}
-use Rattle.rules.specs.Header.{headerOf}
-use Rattle.rules.specs.Entries.{entryHeader}
-use Rattle.rules.specs.Checksum.{checksumHolds, seal}
-use Rattle.rules.specs.AddAligned.{voidBytes}
-use Rattle.laws.proofs.Patch.{edited, patched, seal-patched, written}
-use Rattle.laws.proofs.EntryBytes.{length-entryHeader}
+use Rattle.rules.specs.Header.{header_of}
+use Rattle.rules.specs.Entries.{entry_header}
+use Rattle.rules.specs.Checksum.{checksum_holds, seal}
+use Rattle.rules.specs.AddAligned.{void_bytes}
+use Rattle.laws.proofs.Patch.{edited, patched, seal_patched, written}
+use Rattle.laws.proofs.EntryBytes.{length-entry_header}
 use Rattle.plan.specs.declared.Plan.{Plan}
 use Rattle.plan.specs.Plan.{
-  voidHeader,
-  wholeVoid,
-  headerSpan,
-  voidSpan,
-  stretchOf,
-  stretchLength,
-  fieldsAfter,
+  void_header,
+  whole_void,
+  header_span,
+  void_span,
+  stretch_of,
+  stretch_length,
+  fields_after,
   after,
-  withChecksum,
+  with_checksum,
   WellFormed,
 }
 
 -- ---- voids
 
 -- fewer than 8 bytes have no header
-pub no_header : (n : ℕ) → n < 8 → voidHeader n ≡ []
-unfolding voidHeader
+pub no_header : (n : ℕ) → n < 8 → void_header n ≡ []
+unfolding void_header
 no_header n h = rw (lt-ltb n 8 h)
 
 -- 8 bytes or more have one
-pub some-header : (n : ℕ) → 8 ≤ n → voidHeader n ≡ entryHeader 0 (n - 8)
-unfolding voidHeader
+pub some-header : (n : ℕ) → 8 ≤ n → void_header n ≡ entry_header 0 (n - 8)
+unfolding void_header
 some-header n h = rw (le-ltb n 8 h)
 
 -- a whole void is its header and zeros
-pub whole-void : (n : ℕ) → wholeVoid n ≡ voidHeader n ++ replicate (n - 8) 0
-unfolding wholeVoid voidHeader voidBytes
+pub whole-void : (n : ℕ) → whole_void n ≡ void_header n ++ replicate (n - 8) 0
+unfolding whole_void void_header void_bytes
 whole-void n = go (ltb n 8) refl
   where
-    go : (b : Bool) → ltb n 8 ≡ b → wholeVoid n ≡ voidHeader n ++ replicate (n - 8) 0
+    go : (b : Bool) → ltb n 8 ≡ b → whole_void n ≡ void_header n ++ replicate (n - 8) 0
     go true t =
         let h : n < 8 = ltb-true n 8 t in
         let e : n - 8 ≡ 0 = omega arith in
@@ -58,16 +58,16 @@ whole-void n = go (ltb n 8) refl
     go false t = rw t
 
 -- a void's header covers no more bytes than the void is given, and 8 at most
-pub headerSpan-le : (n : ℕ) → (headerSpan n ≤ n) × (headerSpan n ≤ 8)
-headerSpan-le n = go (ltb n 8) refl
+pub header_span_le : (n : ℕ) → (header_span n ≤ n) × (header_span n ≤ 8)
+header_span_le n = go (ltb n 8) refl
   where
-    go : (b : Bool) → ltb n 8 ≡ b → (headerSpan n ≤ n) × (headerSpan n ≤ 8)
+    go : (b : Bool) → ltb n 8 ≡ b → (header_span n ≤ n) × (header_span n ≤ 8)
     go true t = rw t (omega arith, omega arith)
     go false t = let h : 8 ≤ n = ltb-false n 8 t in rw t (h, omega arith)
 
 -- nor does a whole void
-pub voidSpan-le : (n : ℕ) → voidSpan n ≤ n
-voidSpan-le n = go (ltb n 8)
+pub void_span_le : (n : ℕ) → void_span n ≤ n
+void_span_le n = go (ltb n 8)
   where
     go : (b : Bool) → cond b 0 n ≤ n
     go true = omega arith
@@ -76,44 +76,44 @@ voidSpan-le n = go (ltb n 8)
 -- ---- lengths
 
 -- a whole void has as many bytes as it covers
-pub length-wholeVoid : (n : ℕ) → length (wholeVoid n) ≡ voidSpan n
-unfolding wholeVoid voidBytes
-length-wholeVoid n = go (ltb n 8) refl
+pub length-whole_void : (n : ℕ) → length (whole_void n) ≡ void_span n
+unfolding whole_void void_bytes
+length-whole_void n = go (ltb n 8) refl
   where
-    go : (b : Bool) → ltb n 8 ≡ b → length (wholeVoid n) ≡ voidSpan n
+    go : (b : Bool) → ltb n 8 ≡ b → length (whole_void n) ≡ void_span n
     go true t = rw t
     go false t =
         let h : 8 ≤ n = ltb-false n 8 t in
-        rw (t, length-append, length-entryHeader, length-replicate) (omega arith)
+        rw (t, length-append, length-entry_header, length-replicate) (omega arith)
 
 -- and so has a void's header
-pub length-voidHeader : (n : ℕ) → length (voidHeader n) ≡ headerSpan n
-unfolding voidHeader
-length-voidHeader n = go (ltb n 8) refl
+pub length-void_header : (n : ℕ) → length (void_header n) ≡ header_span n
+unfolding void_header
+length-void_header n = go (ltb n 8) refl
   where
-    go : (b : Bool) → ltb n 8 ≡ b → length (voidHeader n) ≡ headerSpan n
+    go : (b : Bool) → ltb n 8 ≡ b → length (void_header n) ≡ header_span n
     go true t = rw t
-    go false t = rw (t, length-entryHeader)
+    go false t = rw (t, length-entry_header)
 
 -- and a whole stretch, where the padding is no byte or a void
-pub length-stretchOf : (p : Plan) (content : List ℕ) → p.padding ≡ voidSpan p.padding
-    → length (stretchOf p content) ≡ stretchLength p (length content)
-unfolding stretchOf
-length-stretchOf p content h =
-    simp (length-append, length-wholeVoid, length-entryHeader, length-replicate, length-voidHeader, ← h) (omega arith)
+pub length-stretch_of : (p : Plan) (content : List ℕ) → p.padding ≡ void_span p.padding
+    → length (stretch_of p content) ≡ stretch_length p (length content)
+unfolding stretch_of
+length-stretch_of p content h =
+    simp (length-append, length-whole_void, length-entry_header, length-replicate, length-void_header, ← h) (omega arith)
 
 -- ---- exclusive or
 
 -- the zeros of a void do not count
-pub xor-wholeVoid : (n : ℕ) → xor (wholeVoid n) ≡ xor (voidHeader n)
-xor-wholeVoid n = rw (whole-void, xor-append, xor-zeros, xor_zero_r)
+pub xor-whole_void : (n : ℕ) → xor (whole_void n) ≡ xor (void_header n)
+xor-whole_void n = rw (whole-void, xor-append, xor-zeros, xor_zero_r)
 
 -- of a stretch the headers and the data count
-pub xor-stretchOf : (p : Plan) (content : List ℕ) → xor (stretchOf p content)
-    ≡ bit_xor (xor (voidHeader p.padding))
-    (bit_xor (xor (entryHeader p.tag_id p.data_size)) (bit_xor (xor content) (xor (voidHeader p.behind))))
-unfolding stretchOf
-xor-stretchOf p content = simp (xor-append, xor-wholeVoid, xor-zeros, xor_zero_l)
+pub xor-stretch_of : (p : Plan) (content : List ℕ) → xor (stretch_of p content)
+    ≡ bit_xor (xor (void_header p.padding))
+    (bit_xor (xor (entry_header p.tag_id p.data_size)) (bit_xor (xor content) (xor (void_header p.behind))))
+unfolding stretch_of
+xor-stretch_of p content = simp (xor-append, xor-whole_void, xor-zeros, xor_zero_l)
 
 -- ---- the bytes that a stretch covers
 
@@ -142,16 +142,16 @@ old-part a n at u h l =
 -- ---- the area afterwards
 
 -- a well-formed plan with its checksum leaves the edited area with the checksum worked out afresh
-pub after-sealed : (p : Plan) (a content : List ℕ) → Bytes a → checksumHolds a ≡ true → (headerOf a).used_size ≤ length a
-    → WellFormed (headerOf a) (length a) (length content) p
-    → after (withChecksum a content p) a content ≡ seal (edited a p.alignment p.used_size p.at (stretchOf p content))
-unfolding after fieldsAfter withChecksum stretchOf
-after-sealed p a content b c l w =
-    let new : List ℕ = stretchOf p content in
-    let n : length new ≡ stretchLength p (length content) = length-stretchOf p content w.padding in
+pub after_sealed : (p : Plan) (a content : List ℕ) → Bytes a → checksum_holds a ≡ true → (header_of a).used_size ≤ length a
+    → WellFormed (header_of a) (length a) (length content) p
+    → after (with_checksum a content p) a content ≡ seal (edited a p.alignment p.used_size p.at (stretch_of p content))
+unfolding after fields_after with_checksum stretch_of
+after_sealed p a content b c l w =
+    let new : List ℕ = stretch_of p content in
+    let n : length new ≡ stretch_length p (length content) = length-stretch_of p content w.padding in
     let x : ℕ = patched a p.alignment p.used_size p.at new in
-    let f = headerSpan-le p.behind in
-    let e : p.used_size ≡ max (headerOf a).used_size (p.at + length new) = rw n w.used in
+    let f = header_span_le p.behind in
+    let e : p.used_size ≡ max (header_of a).used_size (p.at + length new) = rw n w.used in
     let s : p.used_size < 2 ^ 32 = omega (arith, w.used, w.inside, w.small) in
-    sym (seal-patched a p.alignment p.used_size p.at new b c w.low w.old e l s w.alignment
+    sym (seal_patched a p.alignment p.used_size p.at new b c w.low w.old e l s w.alignment
     ∙ written a p.alignment p.used_size p.at new x w.low (omega (arith, w.old)))

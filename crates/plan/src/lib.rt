@@ -5,7 +5,7 @@ pub mod sum;
 pub mod write;
 
 ghost use Rattle.std.specs.Prelude.{◌≡◌, ◌<◌, ◌^◌};
-ghost use Rattle.plan.specs.Plan.{entryWord, refusalOfPlanned};
+ghost use Rattle.plan.specs.Plan.{entry_word, refusal_of_planned};
 
 use rules::Refusal;
 
@@ -40,7 +40,7 @@ pub enum Planned {
 impl Planned {
     // Why nothing is to be done.
     pub fn refusal(self) -> Refusal
-        ensures { result ≡ refusalOfPlanned self }
+        ensures { result ≡ refusal_of_planned self }
     {
         match self {
             Planned::Go(_) => Refusal::Area,
@@ -52,7 +52,7 @@ impl Planned {
 // The eight bytes of an entry header as one number.
 pub(crate) fn entry_word(tag: u32, size: u32) -> u64
     requires { tag < 2 ^ 24 }
-    ensures { result ≡ entryWord tag size }
+    ensures { result ≡ entry_word tag size }
 {
     tag as u64 + 0x800_0000 + 0x1_0000_0000 * (size as u64)
 }

@@ -1,9 +1,9 @@
 // The checksum byte that the area will have, from the old and the new named bytes. The list is not reckoned anew.
 ghost use Rattle.std.specs.Prelude.{◌≡◌, ◌+◌, ◌-◌, ◌≤◌, ◌<◌, ◌^◌, min, length};
 ghost use Rattle.wire.specs.Bytes.{xor};
-ghost use Rattle.rules.specs.Header.{headerOf};
+ghost use Rattle.rules.specs.Header.{header_of};
 ghost use Rattle.laws.proofs.Patch.{patch_of};
-ghost use Rattle.plan.specs.Plan.{voidHeader, headerSpan, stretchLength, stretchOf, withChecksum, totalPatch, WellFormed};
+ghost use Rattle.plan.specs.Plan.{void_header, header_span, stretch_length, stretch_of, with_checksum, total_patch, WellFormed};
 
 use crate::Plan;
 use rules::Header;
@@ -11,7 +11,7 @@ use rules::Header;
 // The exclusive or of the header of a void that takes n bytes, if there is one.
 fn xor_void(n: usize) -> u8
     requires { n < 2 ^ 32 }
-    ensures { result ≡ xor (voidHeader n) }
+    ensures { result ≡ xor (void_header n) }
 {
     if n < 8 {
         return 0;
@@ -23,7 +23,7 @@ fn xor_void(n: usize) -> u8
 // The exclusive or of the bytes that the plan will write in its stretch.
 fn xor_stretch(p: Plan, data: &[u8]) -> u8
     requires { (p.padding < 2 ^ 32) × (p.behind < 2 ^ 32) × (p.tag_id < 2 ^ 24) }
-    ensures { result ≡ xor (stretchOf p «data».now) }
+    ensures { result ≡ xor (stretch_of p «data».now) }
 {
     xor_void(p.padding)
         ^ (wire::xor8(crate::entry_word(p.tag_id, p.data_size))
@@ -32,7 +32,7 @@ fn xor_stretch(p: Plan, data: &[u8]) -> u8
 
 // The bytes of the header of a void that takes n bytes, if there is one.
 pub fn header_span(n: usize) -> usize
-    ensures { result ≡ headerSpan n }
+    ensures { result ≡ header_span n }
 {
     if n < 8 {
         return 0;
@@ -43,7 +43,7 @@ pub fn header_span(n: usize) -> usize
 // How many bytes of the stretch were used bytes before.
 fn old_length(p: Plan, n: usize, used: usize) -> usize
     requires { (p.at ≤ used) × (p.padding + 8 + n + p.zeros < 2 ^ 63) }
-    ensures { result ≡ min (stretchLength p n) (used - p.at) }
+    ensures { result ≡ min (stretch_length p n) (used - p.at) }
 {
     let len = p.padding + 8 + n + p.zeros + header_span(p.behind);
     let left = used - p.at;
@@ -55,8 +55,8 @@ fn old_length(p: Plan, n: usize, used: usize) -> usize
 
 // The checksum byte with has_checksum: the old one, and the exclusive or of the old and the new named bytes.
 fn patch(p: Plan, a: &[u8], h: Header, data: &[u8]) -> u8
-    requires { (h ≡ headerOf a.now) × (h.used_size ≤ length a.now) × WellFormed h (length a.now) (length «data».now) p }
-    ensures { result ≡ patch_of a.now p.alignment p.used_size p.at (stretchOf p «data».now) }
+    requires { (h ≡ header_of a.now) × (h.used_size ≤ length a.now) × WellFormed h (length a.now) (length «data».now) p }
+    ensures { result ≡ patch_of a.now p.alignment p.used_size p.at (stretch_of p «data».now) }
 {
     let at = p.at;
     let old = old_length(p, data.len(), h.used_size as usize);
@@ -71,8 +71,8 @@ fn patch(p: Plan, a: &[u8], h: Header, data: &[u8]) -> u8
 
 // The plan with the checksum byte that the area will have; without has_checksum it is 0.
 pub fn with_checksum(p: Plan, a: &[u8], h: Header, data: &[u8]) -> Plan
-    requires { (h ≡ headerOf a.now) × (h.used_size ≤ length a.now) × WellFormed h (length a.now) (length «data».now) p }
-    ensures { result ≡ withChecksum a.now «data».now p }
+    requires { (h ≡ header_of a.now) × (h.used_size ≤ length a.now) × WellFormed h (length a.now) (length «data».now) p }
+    ensures { result ≡ with_checksum a.now «data».now p }
 {
     let mut sealed = p;
     if h.flags % 2 == 1 {
@@ -86,7 +86,7 @@ pub fn with_checksum(p: Plan, a: &[u8], h: Header, data: &[u8]) -> Plan
 
 // The checksum byte of a list whose total_size becomes total; without has_checksum it is 0.
 pub fn total_patch(h: Header, total: u32) -> u8
-    ensures { result ≡ totalPatch h total }
+    ensures { result ≡ total_patch h total }
 {
     if h.flags % 2 == 1 {
         return h.checksum ^ wire::xor4(h.total_size) ^ wire::xor4(total);

@@ -1,18 +1,18 @@
 // Writing a plan, piece by piece, and carrying out what an edit has decided.
 ghost use Rattle.std.specs.Prelude.{◌≡◌, ◌+◌, ◌≤◌, ◌<◌, ◌^◌, ◌++◌, length, replicate};
 ghost use Rattle.wire.specs.Bytes.{splice};
-ghost use Rattle.rules.specs.Header.{headerOf, headerSize};
-ghost use Rattle.rules.specs.Entries.{entryHeader};
-ghost use Rattle.rules.specs.Outcome.{answer, bytesAfter};
-ghost use Rattle.plan.specs.Plan.{voidHeader, wholeVoid, fieldsAfter, after, WellFormed, outcomeOf, CanWrite};
+ghost use Rattle.rules.specs.Header.{header_of, header_size};
+ghost use Rattle.rules.specs.Entries.{entry_header};
+ghost use Rattle.rules.specs.Outcome.{answer, bytes_after};
+ghost use Rattle.plan.specs.Plan.{void_header, whole_void, fields_after, after, WellFormed, outcome_of, CanWrite};
 
 use crate::{Plan, Planned};
 use rules::Done;
 
 // The checksum byte, the alignment and used_size.
 fn write_fields(a: &mut [u8], p: Plan)
-    requires { headerSize ≤ length a.old }
-    ensures { a.new ≡ fieldsAfter p a.old }
+    requires { header_size ≤ length a.old }
+    ensures { a.new ≡ fields_after p a.old }
 {
     a[4] = p.checksum;
     a[7] = p.alignment;
@@ -22,7 +22,7 @@ fn write_fields(a: &mut [u8], p: Plan)
 // The header of a void that takes n bytes, if there is one.
 fn write_void_header(a: &mut [u8], at: usize, n: usize)
     requires { (at + n ≤ length a.old) × (n < 2 ^ 32) }
-    ensures { a.new ≡ splice a.old at (voidHeader n) }
+    ensures { a.new ≡ splice a.old at (void_header n) }
 {
     if n < 8 {
         return;
@@ -34,7 +34,7 @@ fn write_void_header(a: &mut [u8], at: usize, n: usize)
 // A void that takes n bytes, its data 0, if there is one.
 pub fn write_void(a: &mut [u8], at: usize, n: usize)
     requires { (at + n ≤ length a.old) × (n < 2 ^ 32) }
-    ensures { a.new ≡ splice a.old at (wholeVoid n) }
+    ensures { a.new ≡ splice a.old at (whole_void n) }
 {
     write_void_header(a, at, n);
     if n > 8 {
@@ -45,7 +45,7 @@ pub fn write_void(a: &mut [u8], at: usize, n: usize)
 // An entry's header and data, with zeros behind.
 fn write_entry(a: &mut [u8], at: usize, tag: u32, size: u32, data: &[u8], zeros: usize)
     requires { (at + 8 + length «data».now + zeros ≤ length a.old) × (tag < 2 ^ 24) }
-    ensures { a.new ≡ splice a.old at (entryHeader tag size ++ («data».now ++ replicate zeros 0)) }
+    ensures { a.new ≡ splice a.old at (entry_header tag size ++ («data».now ++ replicate zeros 0)) }
 {
     let from = at + 8;
     wire::write8(a, at, crate::entry_word(tag, size));
@@ -55,7 +55,7 @@ fn write_entry(a: &mut [u8], at: usize, tag: u32, size: u32, data: &[u8], zeros:
 
 // The whole plan: the header fields, the padding void, the entry, and the header of the void behind.
 fn write_plan(a: &mut [u8], p: Plan, data: &[u8])
-    requires { WellFormed (headerOf a.old) (length a.old) (length «data».now) p }
+    requires { WellFormed (header_of a.old) (length a.old) (length «data».now) p }
     ensures { a.new ≡ after p a.old «data».now }
 {
     let at = p.at;
@@ -70,8 +70,8 @@ fn write_plan(a: &mut [u8], p: Plan, data: &[u8])
 // Carries out what an edit has decided. A refusal changes no byte.
 pub fn carry_out(area: &mut [u8], planned: Planned, data: &[u8]) -> Done
     requires { CanWrite area.old «data».now planned }
-    ensures value { result ≡ answer (outcomeOf area.old «data».now planned) }
-    ensures area_after { area.new ≡ bytesAfter area.old (outcomeOf area.old «data».now planned) }
+    ensures value { result ≡ answer (outcome_of area.old «data».now planned) }
+    ensures area_after { area.new ≡ bytes_after area.old (outcome_of area.old «data».now planned) }
 {
     let Planned::Go(p) = planned else {
         return Done::Refused(planned.refusal());

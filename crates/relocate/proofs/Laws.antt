@@ -10,33 +10,33 @@ use lib.Dec.{ltb}
 use Rattle.wire.specs.Bytes.{le_bytes, splice}
 use Rattle.wire.proofs.Range.{Bytes}
 use Rattle.wire.proofs.Splice.{length-splice}
-use Rattle.wire.proofs.Field.{length-leBytes}
+use Rattle.wire.proofs.Field.{length-le_bytes}
 use Rattle.rules.specs.declared.Header.{Header}
 use Rattle.rules.specs.Area.{down8}
-use Rattle.rules.specs.Header.{headerOf}
+use Rattle.rules.specs.Header.{header_of}
 use Rattle.rules.specs.Edition.{current}
 use Rattle.rules.specs.Checksum.{seal}
-use Rattle.rules.specs.Refusals.{refusesTarget}
-use Rattle.rules.specs.Relocate.{newBase, shift, moved, inTarget, targetBytes, moveTo, relocate}
+use Rattle.rules.specs.Refusals.{refuses_target}
+use Rattle.rules.specs.Relocate.{new_base, shift, moved, in_target, target_bytes, move_to, relocate}
 use Rattle.laws.proofs.Check.{Sound, used-least, used-most}
 use Rattle.laws.proofs.Lists.{set-splice}
-use Rattle.laws.proofs.Moved.{moved-patched}
-use Rattle.plan.specs.Plan.{totalPatch}
+use Rattle.laws.proofs.Moved.{moved_patched}
+use Rattle.plan.specs.Plan.{total_patch}
 use Rattle.destination.specs.Place.{placed}
-use Rattle.destination.proofs.Laws.{outcomeAt, outcome-placed}
+use Rattle.destination.proofs.Laws.{outcome_at, outcome_placed}
 
 -- ---- the place
 
 -- a relocation of an admitted list comes to what the place of its used bytes does
-pub relocate-placed : (a : List ℕ) (base : ℕ) (target : List ℕ) (targetBase : ℕ) (h : Header) → h ≡ headerOf a → let len = length target in
-    relocate a base target targetBase
-    ≡ outcomeAt (λ (by : ℕ). targetBytes a by len) (placed (2 ^ h.alignment) base 0 targetBase len h.used_size)
-unfolding relocate moveTo shift
-relocate-placed a base target targetBase h e =
+pub relocate-placed : (a : List ℕ) (base : ℕ) (target : List ℕ) (target_base : ℕ) (h : Header) → h ≡ header_of a → let len = length target in
+    relocate a base target target_base
+    ≡ outcome_at (λ (by : ℕ). target_bytes a by len) (placed (2 ^ h.alignment) base 0 target_base len h.used_size)
+unfolding relocate move_to shift
+relocate-placed a base target target_base h e =
     let len : ℕ = length target in
-    let by : ℕ = newBase (2 ^ (headerOf a).alignment) base targetBase - targetBase in
+    let by : ℕ = new_base (2 ^ (header_of a).alignment) base target_base - target_base in
     rw (e, add-zero)
-    (outcome-placed (refusesTarget targetBase len) (ltb len (by + (headerOf a).used_size)) by (λ (by : ℕ). targetBytes a by len))
+    (outcome_placed (refuses_target target_base len) (ltb len (by + (header_of a).used_size)) by (λ (by : ℕ). target_bytes a by len))
 
 -- ---- lists
 
@@ -73,40 +73,40 @@ within p m z n i v at new e h l =
 module _ (a : List ℕ) (base : ℕ) (s : Sound current a base) (bytes : Bytes a) where
   -- the used bytes with a new total and its checksum, as they are written
   abbrev written : ℕ → List ℕ
-  written total = splice (set (take (headerOf a).used_size a) 4 (totalPatch (headerOf a) total)) 12 (le_bytes 4 total)
+  written total = splice (set (take (header_of a).used_size a) 4 (total_patch (header_of a) total)) 12 (le_bytes 4 total)
 
   -- they are what the rule moves
-  moved-written : (room : ℕ) → moved a room ≡ written (down8 room)
-  unfolding moved seal totalPatch
-  moved-written room =
-      let u : ℕ = (headerOf a).used_size in
+  moved_written : (room : ℕ) → moved a room ≡ written (down8 room)
+  unfolding moved seal total_patch
+  moved_written room =
+      let u : ℕ = (header_of a).used_size in
       let m : List ℕ = take u a in
       let h : 24 ≤ u = used-least current a base s in
       let l : u ≤ length a = used-most current a base s in
       let lm : length m ≡ u = length-take-le u a l in
-      ap (set (splice m 12 (le_bytes 4 (down8 room))) 4) (moved-patched a bytes s.summed h l (down8 room))
-      ∙ set-splice m 12 (le_bytes 4 (down8 room)) 4 (totalPatch (headerOf a) (down8 room)) (omega arith) (omega arith)
+      ap (set (splice m 12 (le_bytes 4 (down8 room))) 4) (moved_patched a bytes s.summed h l (down8 room))
+      ∙ set-splice m 12 (le_bytes 4 (down8 room)) 4 (total_patch (header_of a) (down8 room)) (omega arith) (omega arith)
 
   -- what the checksum byte and the total leave in a target that holds the used bytes
-  target-written : (t : List ℕ) (by : ℕ) → by + (headerOf a).used_size ≤ length t → let total = down8 (length t - by) in
-      splice (set (inTarget (length t) by (take (headerOf a).used_size a)) (by + 4) (totalPatch (headerOf a) total)) (by + 12) (le_bytes 4 total)
-      ≡ targetBytes a by (length t)
-  unfolding targetBytes inTarget
-  target-written t by h =
-      let u : ℕ = (headerOf a).used_size in
+  target_written : (t : List ℕ) (by : ℕ) → by + (header_of a).used_size ≤ length t → let total = down8 (length t - by) in
+      splice (set (in_target (length t) by (take (header_of a).used_size a)) (by + 4) (total_patch (header_of a) total)) (by + 12) (le_bytes 4 total)
+      ≡ target_bytes a by (length t)
+  unfolding target_bytes in_target
+  target_written t by h =
+      let u : ℕ = (header_of a).used_size in
       let m : List ℕ = take u a in
       let total : ℕ = down8 (length t - by) in
       let k : 24 ≤ u = used-least current a base s in
       let l : u ≤ length a = used-most current a base s in
       let lm : length m ≡ u = length-take-le u a l in
-      let ln : length (le_bytes 4 total) ≡ 4 = length-leBytes 4 total in
-      let ls : length (set m 4 (totalPatch (headerOf a) total)) ≡ length m = length-set m 4 _ in
-      let lw : length (written total) ≡ length m = length-splice (set m 4 (totalPatch (headerOf a) total)) 12 (le_bytes 4 total) (omega arith) ∙ ls in
-      rw (moved-written (length t - by), lw)
+      let ln : length (le_bytes 4 total) ≡ 4 = length-le_bytes 4 total in
+      let ls : length (set m 4 (total_patch (header_of a) total)) ≡ length m = length-set m 4 _ in
+      let lw : length (written total) ≡ length m = length-splice (set m 4 (total_patch (header_of a) total)) 12 (le_bytes 4 total) (omega arith) ∙ ls in
+      rw (moved_written (length t - by), lw)
       (within (replicate by 0) m _ by 4 _ 12 _ (length-replicate by 0) (omega arith) (omega arith))
 
   -- the same by the header that was read
-  pub target-read : (h : Header) (t : List ℕ) (by : ℕ) → h ≡ headerOf a → by + h.used_size ≤ length t → let total = down8 (length t - by) in
-      splice (set (inTarget (length t) by (take h.used_size a)) (by + 4) (totalPatch h total)) (by + 12) (le_bytes 4 total)
-      ≡ targetBytes a by (length t)
-  target-read h t by e l = rw e (target-written t by (rw e at l))
+  pub target_read : (h : Header) (t : List ℕ) (by : ℕ) → h ≡ header_of a → by + h.used_size ≤ length t → let total = down8 (length t - by) in
+      splice (set (in_target (length t) by (take h.used_size a)) (by + 4) (total_patch h total)) (by + 12) (le_bytes 4 total)
+      ≡ target_bytes a by (length t)
+  target_read h t by e l = rw e (target_written t by (rw e at l))

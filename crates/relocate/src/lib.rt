@@ -1,8 +1,8 @@
 // Relocate: the used bytes of a list, into another area.
 ghost use Rattle.std.specs.Prelude.{◌≡◌, ◌+◌, ◌≤◌, ◌<◌, ◌^◌, length};
-ghost use Rattle.rules.specs.Outcome.{answer, bytesAfter};
-ghost use Rattle.rules.specs.Relocate.{targetBytes};
-ghost use Rattle.rules.specs.Edit.{run, toRelocate};
+ghost use Rattle.rules.specs.Outcome.{answer, bytes_after};
+ghost use Rattle.rules.specs.Relocate.{target_bytes};
+ghost use Rattle.rules.specs.Edit.{run, to_relocate};
 ghost use Rattle.laws.proofs.Check.{Admitted};
 
 use destination::Place;
@@ -13,7 +13,7 @@ use walk::wanted::Wanted;
 // The target's bytes: zeros, the used bytes with the new total and checksum, zeros.
 fn write_target(area: &[u8], base: u64, h: Header, target: &mut [u8], shift: usize)
     requires { Admitted area.now base h × (shift + h.used_size ≤ length target.old) × (length target.old < 2 ^ 32) }
-    ensures { target.new ≡ targetBytes area.now shift (length target.old) }
+    ensures { target.new ≡ target_bytes area.now shift (length target.old) }
 {
     let used = h.used_size as usize;
     let total = ((target.len() - shift) / 8 * 8) as u32;
@@ -24,8 +24,8 @@ fn write_target(area: &[u8], base: u64, h: Header, target: &mut [u8], shift: usi
 
 // Relocates the list into the target. Answers the shift: where in the target the list starts.
 pub fn relocate(area: &[u8], base: u64, target: &mut [u8], target_base: u64) -> Done
-    ensures value { result ≡ answer (run (toRelocate target.old target_base) area.now base) }
-    ensures target_after { target.new ≡ bytesAfter target.old (run (toRelocate target.old target_base) area.now base) }
+    ensures value { result ≡ answer (run (to_relocate target.old target_base) area.now base) }
+    ensures target_after { target.new ≡ bytes_after target.old (run (to_relocate target.old target_base) area.now base) }
 {
     let surveyed = clean::admit(area, base, Wanted::nothing());
     let Surveyed::Accepted(_, h, _) = surveyed else {

@@ -8,11 +8,11 @@ use lib.ListN.{replicate}
 use Rattle.wire.specs.Bytes.{field, xor, sum}
 use Rattle.rules.specs.declared.Checked.{Checked}
 use Rattle.rules.specs.declared.CheckAnswer.{CheckAnswer}
-use Rattle.rules.specs.Header.{headerOf}
-use Rattle.rules.specs.Entries.{entryAt, walkIn, walkFrom, walk, liveCount, voidCount}
-use Rattle.rules.specs.Checksum.{checksumHolds}
-use Rattle.rules.specs.Check.{fieldsRefusal, headerRefusal, checksOf, check, checkAnswer}
-use Rattle.rules.specs.Edition09.{sumHolds, check09}
+use Rattle.rules.specs.Header.{header_of}
+use Rattle.rules.specs.Entries.{entry_at, walk_in, walk_from, walk, live_count, void_count}
+use Rattle.rules.specs.Checksum.{checksum_holds}
+use Rattle.rules.specs.Check.{fields_refusal, header_refusal, checks_of, check, check_answer}
+use Rattle.rules.specs.Edition09.{sum_holds, check09}
 
 -- ---- the bytes
 
@@ -32,8 +32,8 @@ header09 checksum =
 
 -- an entry of 16 bytes with a tag, a header size and a data_size; its data are aa bb cc
 abbrev entry : ℕ → ℕ → ℕ → List ℕ
-entry tag hdrSize dataSize =
-    tag ∷ 0x00 ∷ 0x00 ∷ hdrSize ∷ dataSize ∷ 0x00 ∷ 0x00 ∷ 0x00
+entry tag hdr_size data_size =
+    tag ∷ 0x00 ∷ 0x00 ∷ hdr_size ∷ data_size ∷ 0x00 ∷ 0x00 ∷ 0x00
     ∷ 0xaa ∷ 0xbb ∷ 0xcc ∷ 0x00 ∷ 0x00 ∷ 0x00 ∷ 0x00 ∷ 0x00
     ∷ []
 
@@ -47,8 +47,8 @@ wide = entry 1 9 3
 abbrev long : List ℕ
 long = entry 1 8 49
 
-abbrev oddVoid : List ℕ
-oddVoid = entry 0 8 3
+abbrev odd_void : List ℕ
+odd_void = entry 0 8 3
 
 -- a list of a version with three entries
 abbrev three : ℕ → List ℕ → List ℕ → List ℕ → List ℕ
@@ -58,41 +58,41 @@ three version x y z = header 0 version 72 ++ (x ++ (y ++ z))
 
 -- the number of a check's answer, and the place
 abbrev placed : Checked → List ℕ
-placed x = let n : CheckAnswer = checkAnswer x in n.number ∷ n.at ∷ []
+placed x = let n : CheckAnswer = check_answer x in n.number ∷ n.at ∷ []
 
 abbrev shown : List ℕ → List ℕ
 shown a = placed (check a 0x1000)
 
 -- of the lists with one entry as their first, middle and last, beside good ones
-abbrev shownEach : List ℕ → List (List ℕ)
-shownEach x = map shown (three 1 x good good ∷ three 1 good x good ∷ three 1 good good x ∷ [])
+abbrev shown_each : List ℕ → List (List ℕ)
+shown_each x = map shown (three 1 x good good ∷ three 1 good x good ∷ three 1 good good x ∷ [])
 
 -- refusal 8 at the first entry, the middle one and the last
-abbrev eachPlace : List (List ℕ)
-eachPlace = (8 ∷ 24 ∷ []) ∷ (8 ∷ 40 ∷ []) ∷ (8 ∷ 56 ∷ []) ∷ []
+abbrev each_place : List (List ℕ)
+each_place = (8 ∷ 24 ∷ []) ∷ (8 ∷ 40 ∷ []) ∷ (8 ∷ 56 ∷ []) ∷ []
 
 -- each way to break a rule, first, in the middle and last; of two bad ones the first; by a later version's own rule, where a header of 9 bytes
 -- is good, one of 7 is not, and one of 16 is not where 8 bytes are left; another refusal has no place; edition 0.9
 pub record BadEntryExamples : Type 0 where
-  pub headerSize : shownEach wide ≡ eachPlace
-  pub tooLong : shownEach long ≡ eachPlace
-  pub void : shownEach oddVoid ≡ eachPlace
-  pub two : map shown (three 1 good oddVoid wide ∷ three 1 wide wide long ∷ []) ≡ (8 ∷ 40 ∷ []) ∷ (8 ∷ 24 ∷ []) ∷ []
+  pub header_size : shown_each wide ≡ each_place
+  pub too_long : shown_each long ≡ each_place
+  pub void : shown_each odd_void ≡ each_place
+  pub two : map shown (three 1 good odd_void wide ∷ three 1 wide wide long ∷ []) ≡ (8 ∷ 40 ∷ []) ∷ (8 ∷ 24 ∷ []) ∷ []
   pub version2 : map shown (three 2 wide wide wide ∷ three 2 wide (entry 1 7 3) wide ∷ []) ≡ (0 ∷ 0 ∷ []) ∷ (8 ∷ 40 ∷ []) ∷ []
-  pub pastUsed : shown (header 0 2 48 ++ (good ++ (0x01 ∷ 0x00 ∷ 0x00 ∷ 0x10 ∷ replicate 4 0))) ≡ 8 ∷ 40 ∷ []
+  pub past_used : shown (header 0 2 48 ++ (good ++ (0x01 ∷ 0x00 ∷ 0x00 ∷ 0x10 ∷ replicate 4 0))) ≡ 8 ∷ 40 ∷ []
   pub checksum : shown (header 1 1 72 ++ (good ++ (wide ++ good))) ≡ 7 ∷ 0 ∷ []
   pub edition09 : placed (check09 (header09 0x89 ++ (good ++ (wide ++ good))) 0x1000) ≡ 8 ∷ 32 ∷ []
 
-pub bad-entry-examples : BadEntryExamples
-unfolding field xor sum headerOf entryAt walkIn walkFrom walk liveCount voidCount checksumHolds sumHolds fieldsRefusal headerRefusal checksOf
-bad-entry-examples =
+pub bad_entry_examples : BadEntryExamples
+unfolding field xor sum header_of entry_at walk_in walk_from walk live_count void_count checksum_holds sum_holds fields_refusal header_refusal checks_of
+bad_entry_examples =
     record {
-      headerSize = refl;
-      tooLong = refl;
+      header_size = refl;
+      too_long = refl;
       void = refl;
       two = refl;
       version2 = refl;
-      pastUsed = refl;
+      past_used = refl;
       checksum = refl;
       edition09 = refl;
     }

@@ -7,18 +7,18 @@ use lib.IntN.{pos, negsuc}
 use lib.Ieee.{Float, fin, of_bits, of_int, add, mul, lt, eq, le}
 use Rattle.wire.specs.Bytes.{field, le_bytes, splice}
 use Rattle.rules.specs.declared.certificate.Certified.TheVariants.{Read, NotOne, Another, Unsound}
-use Rattle.rules.specs.Header.{headerOf}
-use Rattle.rules.specs.Entries.{entryAt, walkIn, walkFrom, walk, entriesOf, liveCount, voidCount}
-use Rattle.rules.specs.Checksum.{checksumHolds}
-use Rattle.rules.specs.Check.{fieldsRefusal, headerRefusal, checksOf}
+use Rattle.rules.specs.Header.{header_of}
+use Rattle.rules.specs.Entries.{entry_at, walk_in, walk_from, walk, entries_of, live_count, void_count}
+use Rattle.rules.specs.Checksum.{checksum_holds}
+use Rattle.rules.specs.Check.{fields_refusal, header_refusal, checks_of}
 use Rattle.rules.specs.Certificate.{
-  certificateOf,
+  certificate_of,
   float,
-  gaugeReading,
-  gateOf,
+  gauge_reading,
+  gate_of,
   passes,
-  notFinite,
-  refusesContents,
+  not_finite,
+  refuses_contents,
   judged,
   tagged,
   certify,
@@ -30,17 +30,17 @@ use Rattle.rules.specs.Certificate.{
 abbrev quarter : Float
 quarter = fin false 1 (negsuc 1)
 
-abbrev minusHundred : Float
-minusHundred = fin true 25 (pos 2)
+abbrev minus_hundred : Float
+minus_hundred = fin true 25 (pos 2)
 
-abbrev nineHundred : Float
-nineHundred = fin false 225 (pos 2)
+abbrev nine_hundred : Float
+nine_hundred = fin false 225 (pos 2)
 
 -- ---- the bytes
 
 -- serial 7, test 9, a band from 850 to 900, counts 4000, gain 0.25, offset -100
-abbrev areaBand : List ℕ
-areaBand =
+abbrev area_band : List ℕ
+area_band =
     0x0b ∷ 0xb1 ∷ 0x0f ∷ 0x4a ∷ 0x00 ∷ 0x01 ∷ 0x18 ∷ 0x03
     ∷ 0x58 ∷ 0x00 ∷ 0x00 ∷ 0x00 ∷ 0x58 ∷ 0x00 ∷ 0x00 ∷ 0x00
     ∷ 0x00 ∷ 0x00 ∷ 0x00 ∷ 0x00 ∷ 0x00 ∷ 0x00 ∷ 0x00 ∷ 0x00
@@ -55,49 +55,49 @@ areaBand =
     ∷ []
 
 -- with another tag
-abbrev areaNone : List ℕ
-areaNone = splice areaBand 24 (0x11 ∷ [])
+abbrev area_none : List ℕ
+area_none = splice area_band 24 (0x11 ∷ [])
 
 -- with high 899 instead of 900
-abbrev areaBelow : List ℕ
-areaBelow = splice areaBand 80 (le_bytes 8 0x408c180000000000)
+abbrev area_below : List ℕ
+area_below = splice area_band 80 (le_bytes 8 0x408c180000000000)
 
 -- with a ceiling of 900, and the low that it does not use zero, or -0.0
-abbrev areaCeiling : List ℕ
-areaCeiling = splice (splice areaBand 48 (le_bytes 4 2)) 72 (le_bytes 8 0)
+abbrev area_ceiling : List ℕ
+area_ceiling = splice (splice area_band 48 (le_bytes 4 2)) 72 (le_bytes 8 0)
 
-abbrev areaNegativeZero : List ℕ
-areaNegativeZero = splice areaCeiling 72 (le_bytes 8 0x8000000000000000)
+abbrev area_negative_zero : List ℕ
+area_negative_zero = splice area_ceiling 72 (le_bytes 8 0x8000000000000000)
 
 -- with counts 2^24 + 1
-abbrev areaCounts : List ℕ
-areaCounts = splice areaBand 52 (le_bytes 4 0x1000001)
+abbrev area_counts : List ℕ
+area_counts = splice area_band 52 (le_bytes 4 0x1000001)
 
 -- ---- the claim
 
 pub record CertificateExamples : Type 0 where
   -- "Gain 0.25, offset -100, counts 4000 reads exactly 900."
-  pub exact : gaugeReading (record { gain = quarter; offset = minusHundred }) 4000 ≡ nineHundred
+  pub exact : gauge_reading (record { gain = quarter; offset = minus_hundred }) 4000 ≡ nine_hundred
   -- and the patterns of these floats
   pub gain : float 0x3fd0000000000000 ≡ quarter
-  pub offset : float 0xc059000000000000 ≡ minusHundred
-  pub reading : float 0x408c200000000000 ≡ nineHundred
+  pub offset : float 0xc059000000000000 ≡ minus_hundred
+  pub reading : float 0x408c200000000000 ≡ nine_hundred
   -- limits included in the pass
-  pub passed : certify areaBand 0x1000 7 9 ≡ Read nineHundred true
-  pub ceiling : certify areaCeiling 0x1000 7 9 ≡ Read nineHundred true
-  pub failed : certify areaBelow 0x1000 7 9 ≡ Read nineHundred false
+  pub passed : certify area_band 0x1000 7 9 ≡ Read nine_hundred true
+  pub ceiling : certify area_ceiling 0x1000 7 9 ≡ Read nine_hundred true
+  pub failed : certify area_below 0x1000 7 9 ≡ Read nine_hundred false
   -- 18, 19, 20
-  pub missing : certify areaNone 0x1000 7 9 ≡ NotOne
-  pub serial : certify areaBand 0x1000 8 9 ≡ Another
-  pub counts : certify areaCounts 0x1000 7 9 ≡ Unsound
-  pub unused : certify areaNegativeZero 0x1000 7 9 ≡ Unsound
+  pub missing : certify area_none 0x1000 7 9 ≡ NotOne
+  pub serial : certify area_band 0x1000 8 9 ≡ Another
+  pub counts : certify area_counts 0x1000 7 9 ≡ Unsound
+  pub unused : certify area_negative_zero 0x1000 7 9 ≡ Unsound
   -- 19 before 20: the counts are wrong too
-  pub test : certify areaCounts 0x1000 7 8 ≡ Another
+  pub test : certify area_counts 0x1000 7 8 ≡ Another
 
-pub certificate-examples : CertificateExamples
-unfolding field le_bytes splice headerOf entryAt walkIn walkFrom walk entriesOf liveCount voidCount checksumHolds fieldsRefusal headerRefusal
-    checksOf certificateOf gaugeReading gateOf passes notFinite refusesContents judged tagged certify of_bits of_int add mul lt eq le
-certificate-examples =
+pub certificate_examples : CertificateExamples
+unfolding field le_bytes splice header_of entry_at walk_in walk_from walk entries_of live_count void_count checksum_holds fields_refusal header_refusal
+    checks_of certificate_of gauge_reading gate_of passes not_finite refuses_contents judged tagged certify of_bits of_int add mul lt eq le
+certificate_examples =
     record {
       exact = refl;
       gain = refl;

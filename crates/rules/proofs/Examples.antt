@@ -6,48 +6,48 @@ use Prim.Native.Nat.{ℕ}
 use mathlib.Core.Bool.{true, false, cond}
 use mathlib.Core.List.{List, [], ◌∷◌, ◌++◌, map}
 use lib.ListN.{take, replicate}
-use Rattle.wire.specs.Bytes.{field, le_bytes, xor, splice, allZero}
+use Rattle.wire.specs.Bytes.{field, le_bytes, xor, splice, all_zero}
 use Rattle.rules.specs.declared.Refusal.TheVariants.{Area}
 use Rattle.rules.specs.declared.CheckAnswer.{CheckAnswer}
 use Rattle.rules.specs.declared.DoneAnswer.{DoneAnswer}
-use Rattle.rules.specs.Header.{headerOf, headerBytes, freshHeader}
+use Rattle.rules.specs.Header.{header_of, header_bytes, fresh_header}
 use Rattle.rules.specs.Entries.{
-  entryAt,
-  entryHeader,
-  walkIn,
-  walkFrom,
+  entry_at,
+  entry_header,
+  walk_in,
+  walk_from,
   walk,
-  entriesOf,
-  liveCount,
-  voidCount,
+  entries_of,
+  live_count,
+  void_count,
   occurrence,
 }
-use Rattle.rules.specs.Checksum.{checksumHolds, freshChecksum, seal}
-use Rattle.rules.specs.Leftovers.{zeroIn, clean}
-use Rattle.rules.specs.Tags.{tagTable, breaksTable}
-use Rattle.rules.specs.Refusals.{number_of, refusesArea}
-use Rattle.rules.specs.Check.{fieldsRefusal, headerRefusal, checksOf, check, checkAnswer}
-use Rattle.rules.specs.Outcome.{Outcome, answer, bytesAfter, doneAnswer}
-use Rattle.rules.specs.Create.{freshList, create}
-use Rattle.rules.specs.Add.{entryBytes, firstFit, voidBehind, addInVoid, append, addAtEnd, add}
-use Rattle.rules.specs.AddAligned.{voidBytes, paddingVoid, alignedBytes, appendAligned, addAlignedAtEnd, addAligned}
+use Rattle.rules.specs.Checksum.{checksum_holds, fresh_checksum, seal}
+use Rattle.rules.specs.Leftovers.{zero_in, clean}
+use Rattle.rules.specs.Tags.{tag_table, breaks_table}
+use Rattle.rules.specs.Refusals.{number_of, refuses_area}
+use Rattle.rules.specs.Check.{fields_refusal, header_refusal, checks_of, check, check_answer}
+use Rattle.rules.specs.Outcome.{Outcome, answer, bytes_after, done_answer}
+use Rattle.rules.specs.Create.{fresh_list, create}
+use Rattle.rules.specs.Add.{entry_bytes, first_fit, void_behind, add_in_void, append, add_at_end, add}
+use Rattle.rules.specs.AddAligned.{void_bytes, padding_void, aligned_bytes, append_aligned, add_aligned_at_end, add_aligned}
 use Rattle.rules.specs.Void.{void}
-use Rattle.rules.specs.Relocate.{newBase, shift, moved, inTarget, targetBytes, moveTo, relocate}
-use Rattle.rules.specs.Edit.{Edit, toAdd, toAddAligned, toVoid, toRelocate, run, destination, lent}
+use Rattle.rules.specs.Relocate.{new_base, shift, moved, in_target, target_bytes, move_to, relocate}
+use Rattle.rules.specs.Edit.{Edit, to_add, to_add_aligned, to_void, to_relocate, run, destination, lent}
 
 -- ---- the bytes
 
 -- A: a new list of 64 bytes, as document 01 has it
-abbrev areaA : List ℕ
-areaA =
+abbrev area_a : List ℕ
+area_a =
     0x0b ∷ 0xb1 ∷ 0x0f ∷ 0x4a ∷ 0xbc ∷ 0x01 ∷ 0x18 ∷ 0x03
     ∷ 0x18 ∷ 0x00 ∷ 0x00 ∷ 0x00 ∷ 0x40 ∷ 0x00 ∷ 0x00 ∷ 0x00
     ∷ 0x01 ∷ 0x00 ∷ 0x00 ∷ 0x00 ∷ 0x00 ∷ 0x00 ∷ 0x00 ∷ 0x00
     ∷ replicate 40 0
 
 -- B: tag 1 with aa bb cc added, as document 01 has it
-abbrev areaB : List ℕ
-areaB =
+abbrev area_b : List ℕ
+area_b =
     0x0b ∷ 0xb1 ∷ 0x0f ∷ 0x4a ∷ 0x5b ∷ 0x01 ∷ 0x18 ∷ 0x03
     ∷ 0x28 ∷ 0x00 ∷ 0x00 ∷ 0x00 ∷ 0x40 ∷ 0x00 ∷ 0x00 ∷ 0x00
     ∷ 0x01 ∷ 0x00 ∷ 0x00 ∷ 0x00 ∷ 0x00 ∷ 0x00 ∷ 0x00 ∷ 0x00
@@ -56,8 +56,8 @@ areaB =
     ∷ replicate 24 0
 
 -- C: that entry voided: checksum 8c, a void of size 8 and 8 zeros
-abbrev areaC : List ℕ
-areaC =
+abbrev area_c : List ℕ
+area_c =
     0x0b ∷ 0xb1 ∷ 0x0f ∷ 0x4a ∷ 0x8c ∷ 0x01 ∷ 0x18 ∷ 0x03
     ∷ 0x28 ∷ 0x00 ∷ 0x00 ∷ 0x00 ∷ 0x40 ∷ 0x00 ∷ 0x00 ∷ 0x00
     ∷ 0x01 ∷ 0x00 ∷ 0x00 ∷ 0x00 ∷ 0x00 ∷ 0x00 ∷ 0x00 ∷ 0x00
@@ -65,8 +65,8 @@ areaC =
     ∷ replicate 32 0
 
 -- D: tag 2 without data in its place: checksum 8e, used 40 as before, then a void of size 0
-abbrev areaD : List ℕ
-areaD =
+abbrev area_d : List ℕ
+area_d =
     0x0b ∷ 0xb1 ∷ 0x0f ∷ 0x4a ∷ 0x8e ∷ 0x01 ∷ 0x18 ∷ 0x03
     ∷ 0x28 ∷ 0x00 ∷ 0x00 ∷ 0x00 ∷ 0x40 ∷ 0x00 ∷ 0x00 ∷ 0x00
     ∷ 0x01 ∷ 0x00 ∷ 0x00 ∷ 0x00 ∷ 0x00 ∷ 0x00 ∷ 0x00 ∷ 0x00
@@ -75,8 +75,8 @@ areaD =
     ∷ replicate 24 0
 
 -- E: a list with a void of 16 and 16 bytes of room behind it
-abbrev areaE : List ℕ
-areaE =
+abbrev area_e : List ℕ
+area_e =
     0x0b ∷ 0xb1 ∷ 0x0f ∷ 0x4a ∷ 0x8c ∷ 0x01 ∷ 0x18 ∷ 0x03
     ∷ 0x30 ∷ 0x00 ∷ 0x00 ∷ 0x00 ∷ 0x40 ∷ 0x00 ∷ 0x00 ∷ 0x00
     ∷ 0x01 ∷ 0x00 ∷ 0x00 ∷ 0x00 ∷ 0x00 ∷ 0x00 ∷ 0x00 ∷ 0x00
@@ -84,8 +84,8 @@ areaE =
     ∷ replicate 32 0
 
 -- E: 16 bytes fill the void
-abbrev areaE16 : List ℕ
-areaE16 =
+abbrev area_e16 : List ℕ
+area_e16 =
     0x0b ∷ 0xb1 ∷ 0x0f ∷ 0x4a ∷ 0x9e ∷ 0x01 ∷ 0x18 ∷ 0x03
     ∷ 0x30 ∷ 0x00 ∷ 0x00 ∷ 0x00 ∷ 0x40 ∷ 0x00 ∷ 0x00 ∷ 0x00
     ∷ 0x01 ∷ 0x00 ∷ 0x00 ∷ 0x00 ∷ 0x00 ∷ 0x00 ∷ 0x00 ∷ 0x00
@@ -95,8 +95,8 @@ areaE16 =
     ∷ replicate 16 0
 
 -- E: 9 bytes fill it with 7 bytes of padding
-abbrev areaE9 : List ℕ
-areaE9 =
+abbrev area_e9 : List ℕ
+area_e9 =
     0x0b ∷ 0xb1 ∷ 0x0f ∷ 0x4a ∷ 0x96 ∷ 0x01 ∷ 0x18 ∷ 0x03
     ∷ 0x30 ∷ 0x00 ∷ 0x00 ∷ 0x00 ∷ 0x40 ∷ 0x00 ∷ 0x00 ∷ 0x00
     ∷ 0x01 ∷ 0x00 ∷ 0x00 ∷ 0x00 ∷ 0x00 ∷ 0x00 ∷ 0x00 ∷ 0x00
@@ -106,8 +106,8 @@ areaE9 =
     ∷ replicate 16 0
 
 -- E: 8 bytes leave a void of size 0
-abbrev areaE8 : List ℕ
-areaE8 =
+abbrev area_e8 : List ℕ
+area_e8 =
     0x0b ∷ 0xb1 ∷ 0x0f ∷ 0x4a ∷ 0x96 ∷ 0x01 ∷ 0x18 ∷ 0x03
     ∷ 0x30 ∷ 0x00 ∷ 0x00 ∷ 0x00 ∷ 0x40 ∷ 0x00 ∷ 0x00 ∷ 0x00
     ∷ 0x01 ∷ 0x00 ∷ 0x00 ∷ 0x00 ∷ 0x00 ∷ 0x00 ∷ 0x00 ∷ 0x00
@@ -117,16 +117,16 @@ areaE8 =
     ∷ replicate 16 0
 
 -- F: total - used is 8
-abbrev areaF8 : List ℕ
-areaF8 =
+abbrev area_f8 : List ℕ
+area_f8 =
     0x0b ∷ 0xb1 ∷ 0x0f ∷ 0x4a ∷ 0xdc ∷ 0x01 ∷ 0x18 ∷ 0x03
     ∷ 0x18 ∷ 0x00 ∷ 0x00 ∷ 0x00 ∷ 0x20 ∷ 0x00 ∷ 0x00 ∷ 0x00
     ∷ 0x01 ∷ 0x00 ∷ 0x00 ∷ 0x00 ∷ 0x00 ∷ 0x00 ∷ 0x00 ∷ 0x00
     ∷ replicate 8 0
 
 -- F: an entry without data fills it, and total - used is 0
-abbrev areaF0 : List ℕ
-areaF0 =
+abbrev area_f0 : List ℕ
+area_f0 =
     0x0b ∷ 0xb1 ∷ 0x0f ∷ 0x4a ∷ 0xee ∷ 0x01 ∷ 0x18 ∷ 0x03
     ∷ 0x20 ∷ 0x00 ∷ 0x00 ∷ 0x00 ∷ 0x20 ∷ 0x00 ∷ 0x00 ∷ 0x00
     ∷ 0x01 ∷ 0x00 ∷ 0x00 ∷ 0x00 ∷ 0x00 ∷ 0x00 ∷ 0x00 ∷ 0x00
@@ -134,16 +134,16 @@ areaF0 =
     ∷ []
 
 -- G: a list at 0x1000 with used 24 and room
-abbrev areaG : List ℕ
-areaG =
+abbrev area_g : List ℕ
+area_g =
     0x0b ∷ 0xb1 ∷ 0x0f ∷ 0x4a ∷ 0xac ∷ 0x01 ∷ 0x18 ∷ 0x03
     ∷ 0x18 ∷ 0x00 ∷ 0x00 ∷ 0x00 ∷ 0x50 ∷ 0x00 ∷ 0x00 ∷ 0x00
     ∷ 0x01 ∷ 0x00 ∷ 0x00 ∷ 0x00 ∷ 0x00 ∷ 0x00 ∷ 0x00 ∷ 0x00
     ∷ replicate 56 0
 
 -- G: exponent 4, no padding
-abbrev areaG4 : List ℕ
-areaG4 =
+abbrev area_g4 : List ℕ
+area_g4 =
     0x0b ∷ 0xb1 ∷ 0x0f ∷ 0x4a ∷ 0x97 ∷ 0x01 ∷ 0x18 ∷ 0x04
     ∷ 0x28 ∷ 0x00 ∷ 0x00 ∷ 0x00 ∷ 0x50 ∷ 0x00 ∷ 0x00 ∷ 0x00
     ∷ 0x01 ∷ 0x00 ∷ 0x00 ∷ 0x00 ∷ 0x00 ∷ 0x00 ∷ 0x00 ∷ 0x00
@@ -152,8 +152,8 @@ areaG4 =
     ∷ replicate 40 0
 
 -- G: exponent 6, a void of 24, data at 0x1040, used 72
-abbrev areaG6 : List ℕ
-areaG6 =
+abbrev area_g6 : List ℕ
+area_g6 =
     0x0b ∷ 0xb1 ∷ 0x0f ∷ 0x4a ∷ 0xe5 ∷ 0x01 ∷ 0x18 ∷ 0x06
     ∷ 0x48 ∷ 0x00 ∷ 0x00 ∷ 0x00 ∷ 0x50 ∷ 0x00 ∷ 0x00 ∷ 0x00
     ∷ 0x01 ∷ 0x00 ∷ 0x00 ∷ 0x00 ∷ 0x00 ∷ 0x00 ∷ 0x00 ∷ 0x00
@@ -166,8 +166,8 @@ areaG6 =
     ∷ replicate 8 0
 
 -- H: 200 bytes of target: shift 56, total 144
-abbrev targetH200 : List ℕ
-targetH200 =
+abbrev target_h200 : List ℕ
+target_h200 =
     replicate 56 0 ++ (
     0x0b ∷ 0xb1 ∷ 0x0f ∷ 0x4a ∷ 0x25 ∷ 0x01 ∷ 0x18 ∷ 0x06
     ∷ 0x48 ∷ 0x00 ∷ 0x00 ∷ 0x00 ∷ 0x90 ∷ 0x00 ∷ 0x00 ∷ 0x00
@@ -181,8 +181,8 @@ targetH200 =
     ∷ replicate 72 0)
 
 -- H: 128 bytes of target: shift 56, total 72
-abbrev targetH128 : List ℕ
-targetH128 =
+abbrev target_h128 : List ℕ
+target_h128 =
     replicate 56 0 ++ (
     0x0b ∷ 0xb1 ∷ 0x0f ∷ 0x4a ∷ 0xfd ∷ 0x01 ∷ 0x18 ∷ 0x06
     ∷ 0x48 ∷ 0x00 ∷ 0x00 ∷ 0x00 ∷ 0x48 ∷ 0x00 ∷ 0x00 ∷ 0x00
@@ -196,24 +196,24 @@ targetH128 =
     ∷ [])
 
 -- I: 25 bytes: total 24
-abbrev areaI25 : List ℕ
-areaI25 =
+abbrev area_i25 : List ℕ
+area_i25 =
     0x0b ∷ 0xb1 ∷ 0x0f ∷ 0x4a ∷ 0xe4 ∷ 0x01 ∷ 0x18 ∷ 0x03
     ∷ 0x18 ∷ 0x00 ∷ 0x00 ∷ 0x00 ∷ 0x18 ∷ 0x00 ∷ 0x00 ∷ 0x00
     ∷ 0x01 ∷ 0x00 ∷ 0x00 ∷ 0x00 ∷ 0x00 ∷ 0x00 ∷ 0x00 ∷ 0x00
     ∷ replicate 1 0
 
 -- I: the header of a new list of 65,536 bytes, and of one more
-abbrev headerI : List ℕ
-headerI =
+abbrev header_i : List ℕ
+header_i =
     0x0b ∷ 0xb1 ∷ 0x0f ∷ 0x4a ∷ 0xfd ∷ 0x01 ∷ 0x18 ∷ 0x03
     ∷ 0x18 ∷ 0x00 ∷ 0x00 ∷ 0x00 ∷ 0x00 ∷ 0x00 ∷ 0x01 ∷ 0x00
     ∷ 0x01 ∷ 0x00 ∷ 0x00 ∷ 0x00 ∷ 0x00 ∷ 0x00 ∷ 0x00 ∷ 0x00
     ∷ []
 
 -- J: a new list of 64 bytes with another alignment field and the checksum byte that is right for it
-abbrev areaJ : ℕ → ℕ → List ℕ
-areaJ alignment checksum =
+abbrev area_j : ℕ → ℕ → List ℕ
+area_j alignment checksum =
     0x0b ∷ 0xb1 ∷ 0x0f ∷ 0x4a ∷ checksum ∷ 0x01 ∷ 0x18 ∷ alignment
     ∷ 0x18 ∷ 0x00 ∷ 0x00 ∷ 0x00 ∷ 0x40 ∷ 0x00 ∷ 0x00 ∷ 0x00
     ∷ 0x01 ∷ 0x00 ∷ 0x00 ∷ 0x00 ∷ 0x00 ∷ 0x00 ∷ 0x00 ∷ 0x00
@@ -229,12 +229,12 @@ pub record Shown : Type 0 where
 -- of create or an edit, with the lent bytes before
 abbrev after : List ℕ → Outcome → Shown
 after before o =
-    let n : DoneAnswer = doneAnswer (answer o) in
-    record { numbers = n.number ∷ n.value ∷ n.at ∷ []; bytes = bytesAfter before o }
+    let n : DoneAnswer = done_answer (answer o) in
+    record { numbers = n.number ∷ n.value ∷ n.at ∷ []; bytes = bytes_after before o }
 
 -- of an edit of a list at 0x1000
-abbrev shownBy : Edit → List ℕ → Shown
-shownBy e a = after (lent (destination e) a) (run e a 0x1000)
+abbrev shown_by : Edit → List ℕ → Shown
+shown_by e a = after (lent (destination e) a) (run e a 0x1000)
 
 -- of a create of so many bytes there
 abbrev created : ℕ → Shown
@@ -243,7 +243,7 @@ created len = after (replicate len 0xff) (create (replicate len 0xff) 0x1000 tru
 -- of a check, which writes nothing
 abbrev checked : List ℕ → Shown
 checked a =
-    let n : CheckAnswer = checkAnswer (check a 0x1000) in
+    let n : CheckAnswer = check_answer (check a 0x1000) in
     record {
       numbers = n.number ∷ n.version ∷ n.used ∷ n.total ∷ n.alignment ∷ n.live ∷ n.voids ∷ n.at ∷ [];
       bytes = a;
@@ -251,7 +251,7 @@ checked a =
 
 -- of AREA's test on so many bytes at 0x1000: its number, or 0 where it lets them pass
 abbrev judged : ℕ → Shown
-judged len = record { numbers = cond (refusesArea 0x1000 len) (number_of Area) 0 ∷ []; bytes = [] }
+judged len = record { numbers = cond (refuses_area 0x1000 len) (number_of Area) 0 ∷ []; bytes = [] }
 
 -- only the first n bytes, where the paper gives no more
 abbrev first : ℕ → Shown → Shown
@@ -271,60 +271,60 @@ abbrev ◌is◌ : Shown → Shown → Example
 got is want = record { got = got; want = want }
 
 -- data of the examples
-abbrev upTo9 : List ℕ
-upTo9 = 1 ∷ 2 ∷ 3 ∷ 4 ∷ 5 ∷ 6 ∷ 7 ∷ 8 ∷ 9 ∷ []
+abbrev up_to9 : List ℕ
+up_to9 = 1 ∷ 2 ∷ 3 ∷ 4 ∷ 5 ∷ 6 ∷ 7 ∷ 8 ∷ 9 ∷ []
 
-abbrev upTo16 : List ℕ
-upTo16 = upTo9 ++ (10 ∷ 11 ∷ 12 ∷ 13 ∷ 14 ∷ 15 ∷ 16 ∷ [])
+abbrev up_to16 : List ℕ
+up_to16 = up_to9 ++ (10 ∷ 11 ∷ 12 ∷ 13 ∷ 14 ∷ 15 ∷ 16 ∷ [])
 
 abbrev pub table : List Example
 table =
     -- A
-    (created 64 is shows 0 64 areaA)
+    (created 64 is shows 0 64 area_a)
     -- B
-    ∷ (shownBy (toAdd 1 (0xaa ∷ 0xbb ∷ 0xcc ∷ []) false) areaA is shows 0 32 areaB)
+    ∷ (shown_by (to_add 1 (0xaa ∷ 0xbb ∷ 0xcc ∷ []) false) area_a is shows 0 32 area_b)
     -- C
-    ∷ (shownBy (toVoid 1 0) areaB is shows 0 24 areaC)
+    ∷ (shown_by (to_void 1 0) area_b is shows 0 24 area_c)
     -- D
-    ∷ (shownBy (toAdd 2 [] true) areaC is shows 0 32 areaD)
+    ∷ (shown_by (to_add 2 [] true) area_c is shows 0 32 area_d)
     -- E: 17 does not fit, 16 and 9 fill the void, 8 leaves one of size 0
-    ∷ (shownBy (toAdd 2 (replicate 17 1) true) areaE is shows 14 0 areaE)
-    ∷ (shownBy (toAdd 2 upTo16 true) areaE is shows 0 32 areaE16)
-    ∷ (shownBy (toAdd 2 upTo9 true) areaE is shows 0 32 areaE9)
-    ∷ (shownBy (toAdd 2 (take 8 upTo9) true) areaE is shows 0 32 areaE8)
+    ∷ (shown_by (to_add 2 (replicate 17 1) true) area_e is shows 14 0 area_e)
+    ∷ (shown_by (to_add 2 up_to16 true) area_e is shows 0 32 area_e16)
+    ∷ (shown_by (to_add 2 up_to9 true) area_e is shows 0 32 area_e9)
+    ∷ (shown_by (to_add 2 (take 8 up_to9) true) area_e is shows 0 32 area_e8)
     -- F: with 8 left no data is taken, and one byte is ROOM; with 0 left no data is ROOM
-    ∷ (shownBy (toAdd 2 [] false) areaF8 is shows 0 32 areaF0)
-    ∷ (shownBy (toAdd 2 (7 ∷ []) false) areaF8 is shows 14 0 areaF8)
-    ∷ (shownBy (toAdd 2 [] false) areaF0 is shows 14 0 areaF0)
+    ∷ (shown_by (to_add 2 [] false) area_f8 is shows 0 32 area_f0)
+    ∷ (shown_by (to_add 2 (7 ∷ []) false) area_f8 is shows 14 0 area_f8)
+    ∷ (shown_by (to_add 2 [] false) area_f0 is shows 14 0 area_f0)
     -- G: exponent 4, exponent 6, and exponent 6 with total 64
-    ∷ (shownBy (toAddAligned 4 (take 4 upTo9) 4) areaG is shows 0 32 areaG4)
-    ∷ (shownBy (toAddAligned 4 (take 4 upTo9) 6) areaG is shows 0 64 areaG6)
-    ∷ (shownBy (toAddAligned 4 (take 4 upTo9) 6) areaA is shows 14 0 areaA)
+    ∷ (shown_by (to_add_aligned 4 (take 4 up_to9) 4) area_g is shows 0 32 area_g4)
+    ∷ (shown_by (to_add_aligned 4 (take 4 up_to9) 6) area_g is shows 0 64 area_g6)
+    ∷ (shown_by (to_add_aligned 4 (take 4 up_to9) 6) area_a is shows 14 0 area_a)
     -- H: target lengths 200, 128 and 127
-    ∷ (shownBy (toRelocate (replicate 200 0xff) 0x2008) areaG6 is shows 0 56 targetH200)
-    ∷ (shownBy (toRelocate (replicate 128 0xff) 0x2008) areaG6 is shows 0 56 targetH128)
-    ∷ (shownBy (toRelocate (replicate 127 0xff) 0x2008) areaG6 is shows 14 0 (replicate 127 0xff))
+    ∷ (shown_by (to_relocate (replicate 200 0xff) 0x2008) area_g6 is shows 0 56 target_h200)
+    ∷ (shown_by (to_relocate (replicate 128 0xff) 0x2008) area_g6 is shows 0 56 target_h128)
+    ∷ (shown_by (to_relocate (replicate 127 0xff) 0x2008) area_g6 is shows 14 0 (replicate 127 0xff))
     -- I: lengths 24, 25, 65,536 and 65,537; of 16,777,216 and 16,777,217 the test
     ∷ (created 24 is shows 2 0 (replicate 24 0xff))
-    ∷ (created 25 is shows 0 24 areaI25)
-    ∷ (first 24 (created 65536) is shows 0 65536 headerI)
-    ∷ (first 24 (created 65537) is shows 0 65536 headerI)
+    ∷ (created 25 is shows 0 24 area_i25)
+    ∷ (first 24 (created 65536) is shows 0 65536 header_i)
+    ∷ (first 24 (created 65537) is shows 0 65536 header_i)
     ∷ (judged 16777216 is record { numbers = 0 ∷ []; bytes = [] })
     ∷ (judged 16777217 is record { numbers = 1 ∷ []; bytes = [] })
     -- J: alignment fields 2 and 22 are SIZES; 3, 12, 13 and 21 pass
-    ∷ (checked (areaJ 2 0xbd) is record { numbers = 6 ∷ replicate 7 0; bytes = areaJ 2 0xbd })
-    ∷ (checked (areaJ 22 0xa9) is record { numbers = 6 ∷ replicate 7 0; bytes = areaJ 22 0xa9 })
-    ∷ (checked areaA is record { numbers = 0 ∷ 1 ∷ 24 ∷ 64 ∷ 3 ∷ 0 ∷ 0 ∷ 0 ∷ []; bytes = areaA })
-    ∷ (checked (areaJ 12 0xb3) is record { numbers = 0 ∷ 1 ∷ 24 ∷ 64 ∷ 12 ∷ 0 ∷ 0 ∷ 0 ∷ []; bytes = areaJ 12 0xb3 })
-    ∷ (checked (areaJ 13 0xb2) is record { numbers = 0 ∷ 1 ∷ 24 ∷ 64 ∷ 13 ∷ 0 ∷ 0 ∷ 0 ∷ []; bytes = areaJ 13 0xb2 })
-    ∷ (checked (areaJ 21 0xaa) is record { numbers = 0 ∷ 1 ∷ 24 ∷ 64 ∷ 21 ∷ 0 ∷ 0 ∷ 0 ∷ []; bytes = areaJ 21 0xaa })
+    ∷ (checked (area_j 2 0xbd) is record { numbers = 6 ∷ replicate 7 0; bytes = area_j 2 0xbd })
+    ∷ (checked (area_j 22 0xa9) is record { numbers = 6 ∷ replicate 7 0; bytes = area_j 22 0xa9 })
+    ∷ (checked area_a is record { numbers = 0 ∷ 1 ∷ 24 ∷ 64 ∷ 3 ∷ 0 ∷ 0 ∷ 0 ∷ []; bytes = area_a })
+    ∷ (checked (area_j 12 0xb3) is record { numbers = 0 ∷ 1 ∷ 24 ∷ 64 ∷ 12 ∷ 0 ∷ 0 ∷ 0 ∷ []; bytes = area_j 12 0xb3 })
+    ∷ (checked (area_j 13 0xb2) is record { numbers = 0 ∷ 1 ∷ 24 ∷ 64 ∷ 13 ∷ 0 ∷ 0 ∷ 0 ∷ []; bytes = area_j 13 0xb2 })
+    ∷ (checked (area_j 21 0xaa) is record { numbers = 0 ∷ 1 ∷ 24 ∷ 64 ∷ 21 ∷ 0 ∷ 0 ∷ 0 ∷ []; bytes = area_j 21 0xaa })
     ∷ []
 
 -- the claim
 pub examples : map (λ (r : Example). r.got) table ≡ map (λ (r : Example). r.want) table
-unfolding field le_bytes xor splice headerOf headerBytes freshHeader entryAt entryHeader walkIn walkFrom walk entriesOf
-    liveCount voidCount occurrence checksumHolds freshChecksum seal allZero zeroIn clean tagTable breaksTable fieldsRefusal headerRefusal checksOf
-    freshList create entryBytes firstFit voidBehind addInVoid append addAtEnd add
-    voidBytes paddingVoid alignedBytes appendAligned addAlignedAtEnd addAligned void
-    newBase shift moved inTarget targetBytes moveTo relocate
+unfolding field le_bytes xor splice header_of header_bytes fresh_header entry_at entry_header walk_in walk_from walk entries_of
+    live_count void_count occurrence checksum_holds fresh_checksum seal all_zero zero_in clean tag_table breaks_table fields_refusal header_refusal checks_of
+    fresh_list create entry_bytes first_fit void_behind add_in_void append add_at_end add
+    void_bytes padding_void aligned_bytes append_aligned add_aligned_at_end add_aligned void
+    new_base shift moved in_target target_bytes move_to relocate
 examples = refl

@@ -4,25 +4,25 @@ use mathlib.Core.Path.{◌≡◌, refl}
 use Prim.Native.Nat.{ℕ}
 use mathlib.Core.Bool.{true}
 use mathlib.Core.List.{List, [], ◌∷◌}
-use Rattle.wire.specs.Bytes.{field, le_bytes, xor, splice, allZero}
+use Rattle.wire.specs.Bytes.{field, le_bytes, xor, splice, all_zero}
 use Rattle.rules.specs.declared.Refusal.TheVariants.{Room}
-use Rattle.rules.specs.Header.{headerOf}
-use Rattle.rules.specs.Entries.{entryAt, entryHeader, walkIn, walkFrom, walk, entriesOf, liveCount, voidCount, liveOnes}
-use Rattle.rules.specs.Checksum.{checksumHolds, freshChecksum, seal}
-use Rattle.rules.specs.Leftovers.{zeroIn, clean}
-use Rattle.rules.specs.Tags.{tagTable, breaksTable}
-use Rattle.rules.specs.Check.{fieldsRefusal, headerRefusal, checksOf}
+use Rattle.rules.specs.Header.{header_of}
+use Rattle.rules.specs.Entries.{entry_at, entry_header, walk_in, walk_from, walk, entries_of, live_count, void_count, live_ones}
+use Rattle.rules.specs.Checksum.{checksum_holds, fresh_checksum, seal}
+use Rattle.rules.specs.Leftovers.{zero_in, clean}
+use Rattle.rules.specs.Tags.{tag_table, breaks_table}
+use Rattle.rules.specs.Check.{fields_refusal, header_refusal, checks_of}
 use Rattle.rules.specs.Outcome.{refused, done}
-use Rattle.rules.specs.Add.{entryBytes, firstFit, voidBehind, addInVoid, addAtEnd, add}
-use Rattle.rules.specs.AddAligned.{voidBytes}
-use Rattle.rules.specs.Tidy.{tidied, writeVoids, end_of, tidyBytes, tidy}
-use Rattle.rules.specs.Edit.{toAdd, toTidy, run}
+use Rattle.rules.specs.Add.{entry_bytes, first_fit, void_behind, add_in_void, add_at_end, add}
+use Rattle.rules.specs.AddAligned.{void_bytes}
+use Rattle.rules.specs.Tidy.{tidied, write_voids, end_of, tidy_bytes, tidy}
+use Rattle.rules.specs.Edit.{to_add, to_tidy, run}
 
 -- ---- the bytes
 
 -- a run of two, a live entry with padding, a void alone, a live entry, and a run of two at the end; clean, as request 10 asks
-abbrev areaRuns : List ℕ
-areaRuns =
+abbrev area_runs : List ℕ
+area_runs =
     0x0b ∷ 0xb1 ∷ 0x0f ∷ 0x4a ∷ 0x37 ∷ 0x01 ∷ 0x18 ∷ 0x05
     ∷ 0x70 ∷ 0x00 ∷ 0x00 ∷ 0x00 ∷ 0x78 ∷ 0x00 ∷ 0x00 ∷ 0x00
     ∷ 0x01 ∷ 0x00 ∷ 0x00 ∷ 0x00 ∷ 0x00 ∷ 0x00 ∷ 0x00 ∷ 0x00
@@ -42,8 +42,8 @@ areaRuns =
     ∷ []
 
 -- tidied: one void of 16 for the first run, zeros for data; used 88, and zeros up to the old used; alignment 5 and what is behind stay
-abbrev areaTidied : List ℕ
-areaTidied =
+abbrev area_tidied : List ℕ
+area_tidied =
     0x0b ∷ 0xb1 ∷ 0x0f ∷ 0x4a ∷ 0x07 ∷ 0x01 ∷ 0x18 ∷ 0x05
     ∷ 0x58 ∷ 0x00 ∷ 0x00 ∷ 0x00 ∷ 0x78 ∷ 0x00 ∷ 0x00 ∷ 0x00
     ∷ 0x01 ∷ 0x00 ∷ 0x00 ∷ 0x00 ∷ 0x00 ∷ 0x00 ∷ 0x00 ∷ 0x00
@@ -63,8 +63,8 @@ areaTidied =
     ∷ []
 
 -- voids alone
-abbrev areaVoids : List ℕ
-areaVoids =
+abbrev area_voids : List ℕ
+area_voids =
     0x0b ∷ 0xb1 ∷ 0x0f ∷ 0x4a ∷ 0xe4 ∷ 0x01 ∷ 0x18 ∷ 0x03
     ∷ 0x40 ∷ 0x00 ∷ 0x00 ∷ 0x00 ∷ 0x48 ∷ 0x00 ∷ 0x00 ∷ 0x00
     ∷ 0x01 ∷ 0x00 ∷ 0x00 ∷ 0x00 ∷ 0x00 ∷ 0x00 ∷ 0x00 ∷ 0x00
@@ -77,8 +77,8 @@ areaVoids =
     ∷ []
 
 -- tidied: no entry
-abbrev areaNone : List ℕ
-areaNone =
+abbrev area_none : List ℕ
+area_none =
     0x0b ∷ 0xb1 ∷ 0x0f ∷ 0x4a ∷ 0xb4 ∷ 0x01 ∷ 0x18 ∷ 0x03
     ∷ 0x18 ∷ 0x00 ∷ 0x00 ∷ 0x00 ∷ 0x48 ∷ 0x00 ∷ 0x00 ∷ 0x00
     ∷ 0x01 ∷ 0x00 ∷ 0x00 ∷ 0x00 ∷ 0x00 ∷ 0x00 ∷ 0x00 ∷ 0x00
@@ -91,8 +91,8 @@ areaNone =
     ∷ []
 
 -- a full list with two voids without data in front of a live entry
-abbrev areaFull : List ℕ
-areaFull =
+abbrev area_full : List ℕ
+area_full =
     0x0b ∷ 0xb1 ∷ 0x0f ∷ 0x4a ∷ 0xf8 ∷ 0x01 ∷ 0x18 ∷ 0x03
     ∷ 0x40 ∷ 0x00 ∷ 0x00 ∷ 0x00 ∷ 0x40 ∷ 0x00 ∷ 0x00 ∷ 0x00
     ∷ 0x01 ∷ 0x00 ∷ 0x00 ∷ 0x00 ∷ 0x00 ∷ 0x00 ∷ 0x00 ∷ 0x00
@@ -104,8 +104,8 @@ areaFull =
     ∷ []
 
 -- tidied: one void of 8
-abbrev areaJoined : List ℕ
-areaJoined =
+abbrev area_joined : List ℕ
+area_joined =
     0x0b ∷ 0xb1 ∷ 0x0f ∷ 0x4a ∷ 0xf8 ∷ 0x01 ∷ 0x18 ∷ 0x03
     ∷ 0x40 ∷ 0x00 ∷ 0x00 ∷ 0x00 ∷ 0x40 ∷ 0x00 ∷ 0x00 ∷ 0x00
     ∷ 0x01 ∷ 0x00 ∷ 0x00 ∷ 0x00 ∷ 0x00 ∷ 0x00 ∷ 0x00 ∷ 0x00
@@ -117,8 +117,8 @@ areaJoined =
     ∷ []
 
 -- three bytes in its place
-abbrev areaAdded : List ℕ
-areaAdded =
+abbrev area_added : List ℕ
+area_added =
     0x0b ∷ 0xb1 ∷ 0x0f ∷ 0x4a ∷ 0xf0 ∷ 0x01 ∷ 0x18 ∷ 0x03
     ∷ 0x40 ∷ 0x00 ∷ 0x00 ∷ 0x00 ∷ 0x40 ∷ 0x00 ∷ 0x00 ∷ 0x00
     ∷ 0x01 ∷ 0x00 ∷ 0x00 ∷ 0x00 ∷ 0x00 ∷ 0x00 ∷ 0x00 ∷ 0x00
@@ -134,15 +134,15 @@ areaAdded =
 -- the answer, the new used size, and every byte afterwards; "tidying twice is the same as once"; and an add that is ROOM before and
 -- accepted afterwards
 pub record TidyExamples : Type 0 where
-  pub runs : run toTidy areaRuns 0x1000 ≡ done 88 areaTidied
-  pub twice : run toTidy areaTidied 0x1000 ≡ done 88 areaTidied
-  pub voids : run toTidy areaVoids 0x1000 ≡ done 24 areaNone
-  pub before : run (toAdd 3 (1 ∷ 2 ∷ 3 ∷ []) true) areaFull 0x1000 ≡ refused Room
-  pub between : run toTidy areaFull 0x1000 ≡ done 64 areaJoined
-  pub afterwards : run (toAdd 3 (1 ∷ 2 ∷ 3 ∷ []) true) areaJoined 0x1000 ≡ done 32 areaAdded
+  pub runs : run to_tidy area_runs 0x1000 ≡ done 88 area_tidied
+  pub twice : run to_tidy area_tidied 0x1000 ≡ done 88 area_tidied
+  pub voids : run to_tidy area_voids 0x1000 ≡ done 24 area_none
+  pub before : run (to_add 3 (1 ∷ 2 ∷ 3 ∷ []) true) area_full 0x1000 ≡ refused Room
+  pub between : run to_tidy area_full 0x1000 ≡ done 64 area_joined
+  pub afterwards : run (to_add 3 (1 ∷ 2 ∷ 3 ∷ []) true) area_joined 0x1000 ≡ done 32 area_added
 
-pub tidy-examples : TidyExamples
-unfolding field le_bytes xor splice headerOf entryAt entryHeader walkIn walkFrom walk entriesOf liveCount voidCount liveOnes
-    checksumHolds freshChecksum seal allZero zeroIn clean tagTable breaksTable fieldsRefusal headerRefusal checksOf
-    entryBytes firstFit voidBehind addInVoid addAtEnd add voidBytes tidied writeVoids end_of tidyBytes tidy
-tidy-examples = record { runs = refl; twice = refl; voids = refl; before = refl; between = refl; afterwards = refl }
+pub tidy_examples : TidyExamples
+unfolding field le_bytes xor splice header_of entry_at entry_header walk_in walk_from walk entries_of live_count void_count live_ones
+    checksum_holds fresh_checksum seal all_zero zero_in clean tag_table breaks_table fields_refusal header_refusal checks_of
+    entry_bytes first_fit void_behind add_in_void add_at_end add void_bytes tidied write_voids end_of tidy_bytes tidy
+tidy_examples = record { runs = refl; twice = refl; voids = refl; before = refl; between = refl; afterwards = refl }

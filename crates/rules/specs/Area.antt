@@ -15,18 +15,18 @@ abbrev pub multiple8 : ℕ → Bool
 multiple8 n = eqb (n % 8) 0
 
 -- the largest length of an area and of a target, as amended by request 7: "L and the target length may be up to 16 MiB (16,777,216)"
-abbrev pub maxLength : ℕ
-maxLength = 16777216
+abbrev pub max_length : ℕ
+max_length = 16777216
 
 -- the largest alignment, a power of two's exponent, as amended by request 7: "and alignment up to 21"
-abbrev pub maxAlignment : ℕ
-maxAlignment = 21
+abbrev pub max_alignment : ℕ
+max_alignment = 21
 
 -- no area reaches above this address
-abbrev pub maxAddress : ℕ
-maxAddress = 2 ^ 48
+abbrev pub max_address : ℕ
+max_address = 2 ^ 48
 
 -- "An area is usable when its base is a multiple of 8, base + L is at most 2^48, and L is at most 65,536"; as amended by request 7,
 -- 16,777,216
 abbrev pub usable : ℕ → ℕ → Bool
-usable base len = multiple8 base && leb (base + len) maxAddress && leb len maxLength
+usable base len = multiple8 base && leb (base + len) max_address && leb len max_length

@@ -7,20 +7,20 @@ use Rattle.rules.specs.declared.Checked.TheVariants.{Accepted, Refused}
 use Rattle.rules.specs.declared.Refusal.{Refusal}
 use Rattle.rules.specs.declared.Refusal.TheVariants.{Area, Short, Signature, Version, Readonly, Sizes, Checksum, Entry, Dirty}
 use Rattle.rules.specs.declared.CheckAnswer.{CheckAnswer}
-use Rattle.rules.specs.Header.{headerOf}
+use Rattle.rules.specs.Header.{header_of}
 use Rattle.rules.specs.Edition.{Edition, current}
-use Rattle.rules.specs.Entries.{Walk, entries, broken, walk, liveCount, voidCount}
+use Rattle.rules.specs.Entries.{Walk, entries, broken, walk, live_count, void_count}
 use Rattle.rules.specs.Refusals.{
   number_of,
   place_of,
-  refusesArea,
-  refusesShort,
-  refusesSignature,
-  refusesVersion,
-  refusesReadonly,
-  refusesSizes,
-  refusesChecksum,
-  refusesDirty,
+  refuses_area,
+  refuses_short,
+  refuses_signature,
+  refuses_version,
+  refuses_readonly,
+  refuses_sizes,
+  refuses_checksum,
+  refuses_dirty,
 }
 
 -- 8, and the answer: "version, used, total, alignment, and the numbers of live and void entries"
@@ -32,23 +32,23 @@ walked h (entries es) =
       used = h.used_size;
       total = h.total_size;
       alignment = h.alignment;
-      live = liveCount es;
-      voids = voidCount es;
+      live = live_count es;
+      voids = void_count es;
     })
 walked h (broken at) = Refused (Entry at)
 
 -- 3 to 6, by the header's fields and L; 5 only where it applies: editing says whether the call is one of those that 5 names
-unfoldable pub fieldsRefusal : Edition → Bool → ℕ → Header → Option Refusal
-fieldsRefusal ed editing len h =
-    cond (refusesSignature ed h) (some Signature)
-    (cond (refusesVersion h) (some Version)
-    (cond (refusesReadonly editing h) (some Readonly)
-    (cond (refusesSizes ed h len) (some Sizes) none)))
+unfoldable pub fields_refusal : Edition → Bool → ℕ → Header → Option Refusal
+fields_refusal ed editing len h =
+    cond (refuses_signature ed h) (some Signature)
+    (cond (refuses_version h) (some Version)
+    (cond (refuses_readonly editing h) (some Readonly)
+    (cond (refuses_sizes ed h len) (some Sizes) none)))
 
 -- 1 to 6, by the base, L and the header's fields
-unfoldable pub headerRefusal : Edition → Bool → ℕ → ℕ → Header → Option Refusal
-headerRefusal ed editing base len h =
-    cond (refusesArea base len) (some Area) (cond (refusesShort ed len) (some Short) (fieldsRefusal ed editing len h))
+unfoldable pub header_refusal : Edition → Bool → ℕ → ℕ → Header → Option Refusal
+header_refusal ed editing base len h =
+    cond (refuses_area base len) (some Area) (cond (refuses_short ed len) (some Short) (fields_refusal ed editing len h))
 
 -- "A refused check ends the call there."
 abbrev pub unless : Option Refusal → Checked → Checked
@@ -56,33 +56,33 @@ unless (some r) x = Refused r
 unless none x = x
 
 -- checks 1 to 8 on the given list, by its edition
-unfoldable pub checksOf : Edition → Bool → List ℕ → ℕ → Checked
-checksOf ed editing a base =
-    unless (headerRefusal ed editing base (length a) (headerOf a))
-    (cond (refusesChecksum ed a) (Refused Checksum) (walked (headerOf a) (walk a)))
+unfoldable pub checks_of : Edition → Bool → List ℕ → ℕ → Checked
+checks_of ed editing a base =
+    unless (header_refusal ed editing base (length a) (header_of a))
+    (cond (refuses_checksum ed a) (Refused Checksum) (walked (header_of a) (walk a)))
 
 -- the check
 abbrev pub check : List ℕ → ℕ → Checked
-check a base = checksOf current false a base
+check a base = checks_of current false a base
 
 -- the admission of a current list to an edit
 abbrev pub admit : List ℕ → ℕ → Checked
-admit a base = checksOf current true a base
+admit a base = checks_of current true a base
 
 -- 15, as added by request 10, which amends the order of the numbers for it: "checked right after ENTRY and so before 9"; "check and find still
 -- read it"
-abbrev pub unlessDirty : List ℕ → Checked → Checked
-unlessDirty a (Accepted f) = cond (refusesDirty a) (Refused Dirty) (Accepted f)
-unlessDirty a (Refused r) = Refused r
+abbrev pub unless_dirty : List ℕ → Checked → Checked
+unless_dirty a (Accepted f) = cond (refuses_dirty a) (Refused Dirty) (Accepted f)
+unless_dirty a (Refused r) = Refused r
 
 -- and the admission of a clean one
-abbrev pub admitClean : List ℕ → ℕ → Checked
-admitClean a base = unlessDirty a (admit a base)
+abbrev pub admit_clean : List ℕ → ℕ → Checked
+admit_clean a base = unless_dirty a (admit a base)
 
 -- the answer in numbers: "A refusal answers its number with every other number in the answer 0"; as amended by request 8, "for refusal 8
 -- only", but for the place
-abbrev pub checkAnswer : Checked → CheckAnswer
-checkAnswer (Accepted f) =
+abbrev pub check_answer : Checked → CheckAnswer
+check_answer (Accepted f) =
     record {
       number = 0;
       version = f.version;
@@ -93,7 +93,7 @@ checkAnswer (Accepted f) =
       voids = f.voids;
       at = 0;
     }
-checkAnswer (Refused r) =
+check_answer (Refused r) =
     record {
       number = number_of r;
       version = 0;

@@ -19,16 +19,16 @@ answer (refused r) = reply.Refused r
 answer (done value bytes) = reply.Value value
 
 -- the lent bytes afterwards, from those before: a refused call changes no byte
-abbrev pub bytesAfter : List ℕ → Outcome → List ℕ
-bytesAfter before (refused r) = before
-bytesAfter before (done value bytes) = bytes
+abbrev pub bytes_after : List ℕ → Outcome → List ℕ
+bytes_after before (refused r) = before
+bytes_after before (done value bytes) = bytes
 
 -- the answer in numbers, with the place as added by request 8
-abbrev pub doneAnswer : Done → DoneAnswer
-doneAnswer (reply.Value value) = record { number = 0; value = value; at = 0 }
-doneAnswer (reply.Refused r) = record { number = number_of r; value = 0; at = place_of r }
+abbrev pub done_answer : Done → DoneAnswer
+done_answer (reply.Value value) = record { number = 0; value = value; at = 0 }
+done_answer (reply.Refused r) = record { number = number_of r; value = 0; at = place_of r }
 
 -- a refused check ends the call there
-abbrev pub afterAdmission : Checked → Outcome → Outcome
-afterAdmission (checked.Accepted f) x = x
-afterAdmission (checked.Refused r) x = refused r
+abbrev pub after_admission : Checked → Outcome → Outcome
+after_admission (checked.Accepted f) x = x
+after_admission (checked.Refused r) x = refused r

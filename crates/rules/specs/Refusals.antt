@@ -20,9 +20,9 @@ use Rattle.rules.specs.declared.Refusal.TheVariants.{
   Room,
   Dirty,
 }
-use Rattle.rules.specs.Area.{align8, multiple8, usable, maxLength, maxAlignment, maxAddress}
-use Rattle.rules.specs.Header.{headerSize, currentVersion, leastAlignment}
-use Rattle.rules.specs.Entries.{wrongHeaderSize}
+use Rattle.rules.specs.Area.{align8, multiple8, usable, max_length, max_alignment, max_address}
+use Rattle.rules.specs.Header.{header_size, current_version, least_alignment}
+use Rattle.rules.specs.Entries.{wrong_header_size}
 use Rattle.rules.specs.Leftovers.{clean}
 use Rattle.rules.specs.Edition.{Edition}
 use Rattle.rules.specs.declared.Header.{Header}
@@ -65,39 +65,39 @@ place_of Room = 0
 place_of Dirty = 0
 
 -- 1: the area is not usable
-abbrev pub refusesArea : ℕ → ℕ → Bool
-refusesArea base len = not (usable base len)
+abbrev pub refuses_area : ℕ → ℕ → Bool
+refuses_area base len = not (usable base len)
 
 -- 2: L is under 24, the edition's header size (as amended by request 1, 16 in edition 0.9); for create, L is 24 or less
-abbrev pub refusesShort : Edition → ℕ → Bool
-refusesShort ed len = ltb len ed.headerSize
+abbrev pub refuses_short : Edition → ℕ → Bool
+refuses_short ed len = ltb len ed.header_size
 
-abbrev pub refusesShortCreate : ℕ → Bool
-refusesShortCreate len = leb len headerSize
+abbrev pub refuses_short_create : ℕ → Bool
+refuses_short_create len = leb len header_size
 
 -- 3: the signature differs, as amended by request 1 from the edition's
-abbrev pub refusesSignature : Edition → Header → Bool
-refusesSignature ed h = not (eqb h.signature ed.signature)
+abbrev pub refuses_signature : Edition → Header → Bool
+refuses_signature ed h = not (eqb h.signature ed.signature)
 
 -- 4: version is 0
-abbrev pub refusesVersion : Header → Bool
-refusesVersion h = eqb h.version 0
+abbrev pub refuses_version : Header → Bool
+refuses_version h = eqb h.version 0
 
 -- 5: version is over 1 and the call is add, add aligned, void or relocate or, as amended by requests 1, 3 and 10, a conversion, a tidy or a scrub
-abbrev pub refusesReadonly : Bool → Header → Bool
-refusesReadonly editing h = editing && ltb currentVersion h.version
+abbrev pub refuses_readonly : Bool → Header → Bool
+refuses_readonly editing h = editing && ltb current_version h.version
 
 -- an alignment is outside 3 to 21, as amended by request 7
-abbrev pub outsideAlignment : ℕ → Bool
-outsideAlignment a = ltb a leastAlignment || ltb maxAlignment a
+abbrev pub outside_alignment : ℕ → Bool
+outside_alignment a = ltb a least_alignment || ltb max_alignment a
 
 -- 6: hdr_size is not 24 (version 1) or is under 24 (above), 24 being the edition's header size (as amended by request 1, 16 in edition
 -- 0.9); alignment is outside 3 to 21 (as amended by request 7); used or total is no multiple of 8; used is under align8(hdr_size); used
 -- exceeds total; total exceeds L
-abbrev pub refusesSizes : Edition → Header → ℕ → Bool
-refusesSizes ed h len =
-    wrongHeaderSize h.version ed.headerSize h.hdr_size
-    || outsideAlignment h.alignment
+abbrev pub refuses_sizes : Edition → Header → ℕ → Bool
+refuses_sizes ed h len =
+    wrong_header_size h.version ed.header_size h.hdr_size
+    || outside_alignment h.alignment
     || not (multiple8 h.used_size)
     || not (multiple8 h.total_size)
     || ltb h.used_size (align8 h.hdr_size)
@@ -105,24 +105,24 @@ refusesSizes ed h len =
     || ltb len h.total_size
 
 -- 7: the checksum rule, as amended by request 1 the edition's, is broken
-abbrev pub refusesChecksum : Edition → List ℕ → Bool
-refusesChecksum ed a = not (ed.summed a)
+abbrev pub refuses_checksum : Edition → List ℕ → Bool
+refuses_checksum ed a = not (ed.summed a)
 
 -- 9: tag is 0 or over 0xffffff; for both adds also 0x800000 to 0xffefff
-abbrev pub refusesTag : ℕ → Bool
-refusesTag tag = eqb tag 0 || ltb 0xffffff tag
+abbrev pub refuses_tag : ℕ → Bool
+refuses_tag tag = eqb tag 0 || ltb 0xffffff tag
 
-abbrev pub refusesTagAdd : ℕ → Bool
-refusesTagAdd tag = refusesTag tag || leb 0x800000 tag && leb tag 0xffefff
+abbrev pub refuses_tag_add : ℕ → Bool
+refuses_tag_add tag = refuses_tag tag || leb 0x800000 tag && leb tag 0xffefff
 
 -- 11: aligned add with exponent outside 3 to 21, as amended by request 7
-abbrev pub refusesAlign : ℕ → Bool
-refusesAlign exponent = outsideAlignment exponent
+abbrev pub refuses_align : ℕ → Bool
+refuses_align exponent = outside_alignment exponent
 
 -- 12: target base + target length exceeds 2^48, or target length exceeds 16,777,216, as amended by request 7
-abbrev pub refusesTarget : ℕ → ℕ → Bool
-refusesTarget base len = ltb maxAddress (base + len) || ltb maxLength len
+abbrev pub refuses_target : ℕ → ℕ → Bool
+refuses_target base len = ltb max_address (base + len) || ltb max_length len
 
 -- 15, as added by request 10: the list is not clean
-abbrev pub refusesDirty : List ℕ → Bool
-refusesDirty a = not (clean a)
+abbrev pub refuses_dirty : List ℕ → Bool
+refuses_dirty a = not (clean a)

@@ -21,18 +21,18 @@ abbrev exactly : ℕ → ℕ → TagRow
 exactly n tag = record { tag = tag; least = n; most = some n }
 
 -- the test certificate (request 5): "Tag 0xfff010 carries exactly 56 bytes"
-abbrev pub certificateTag : ℕ
-certificateTag = 0xfff010
+abbrev pub certificate_tag : ℕ
+certificate_tag = 0xfff010
 
-abbrev pub certificateSize : ℕ
-certificateSize = 56
+abbrev pub certificate_size : ℕ
+certificate_size = 56
 
 -- FDT, HOB block, HOB list, ACPI, TPM event log, TPM CRB base; OP-TEE pageable part, SPMC manifest, entry point, memory layout
 -- TPM event log as amended by request 2: "Source document 001 puts a 4-byte flags word ahead of the log and counts it in data_size. So
 -- a length under 4 is SHAPE from now on; 4 is accepted. Both adds read the new row."
 -- Test certificate as added by request 5: "Adds of this tag with another length are SHAPE."
-unfoldable pub tagTable : List TagRow
-tagTable =
+unfoldable pub tag_table : List TagRow
+tag_table =
     any 1
     ∷ any 2
     ∷ any 3
@@ -43,7 +43,7 @@ tagTable =
     ∷ any 0x101
     ∷ any 0x102
     ∷ exactly 16 0x104
-    ∷ exactly certificateSize certificateTag
+    ∷ exactly certificate_size certificate_tag
     ∷ []
 
 -- a length is over the greatest, where there is one
@@ -56,10 +56,10 @@ abbrev pub breaks : TagRow → ℕ → Bool
 breaks r n = ltb n r.least || exceeds n r.most
 
 -- "A tag not listed may carry any length."
-unfoldable pub breaksTable : List TagRow → ℕ → ℕ → Bool
-breaksTable [] tag n = false
-breaksTable (r ∷ rs) tag n = cond (eqb r.tag tag) (breaks r n) (breaksTable rs tag n)
+unfoldable pub breaks_table : List TagRow → ℕ → ℕ → Bool
+breaks_table [] tag n = false
+breaks_table (r ∷ rs) tag n = cond (eqb r.tag tag) (breaks r n) (breaks_table rs tag n)
 
 -- 10: an add's data length breaks the tag table
-abbrev pub refusesShape : ℕ → ℕ → Bool
-refusesShape tag n = breaksTable tagTable tag n
+abbrev pub refuses_shape : ℕ → ℕ → Bool
+refuses_shape tag n = breaks_table tag_table tag n

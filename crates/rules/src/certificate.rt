@@ -1,6 +1,6 @@
 // The declared types of the test certificate and of the answer about it (document 02, request 5).
 ghost use Rattle.std.specs.Prelude.{◌≡◌};
-ghost use Rattle.rules.specs.Certificate.{certifiedAnswer, refusedAnswer};
+ghost use Rattle.rules.specs.Certificate.{certified_answer, refused_answer};
 
 use crate::Refusal;
 
@@ -75,7 +75,7 @@ pub struct CertifiedAnswer {
 
 // A refusal's answer.
 fn refused(number: u32, at: u32) -> CertifiedAnswer
-    ensures { result ≡ refusedAnswer number at }
+    ensures { result ≡ refused_answer number at }
 {
     CertifiedAnswer {
         number,
@@ -88,7 +88,7 @@ fn refused(number: u32, at: u32) -> CertifiedAnswer
 impl Certified {
     // The answer in numbers.
     pub fn numbers(self) -> CertifiedAnswer
-        ensures { result ≡ certifiedAnswer self }
+        ensures { result ≡ certified_answer self }
     {
         match self {
             Certified::Read { reading, pass } => {

@@ -2,11 +2,11 @@
 pub mod certificate;
 
 ghost use Rattle.std.specs.Prelude.{◌≡◌};
-ghost use Rattle.rules.specs.Header.{freshHeader};
+ghost use Rattle.rules.specs.Header.{fresh_header};
 ghost use Rattle.rules.specs.Refusals.{number_of, place_of};
-ghost use Rattle.rules.specs.Check.{checkAnswer};
-ghost use Rattle.rules.specs.Find.{findAnswer};
-ghost use Rattle.rules.specs.Outcome.{doneAnswer};
+ghost use Rattle.rules.specs.Check.{check_answer};
+ghost use Rattle.rules.specs.Find.{find_answer};
+ghost use Rattle.rules.specs.Outcome.{done_answer};
 
 // The longest area and the longest target, in bytes.
 pub const MAX_LENGTH: usize = 16777216;
@@ -44,7 +44,7 @@ impl Header {
 
     // The header of a new list without entries, its checksum still 0.
     pub fn fresh(total_size: u32, has_checksum: bool) -> Header
-        ensures { result ≡ freshHeader total_size has_checksum }
+        ensures { result ≡ fresh_header total_size has_checksum }
     {
         Header {
             signature: Header::SIGNATURE,
@@ -205,7 +205,7 @@ pub struct DoneAnswer {
 impl Checked {
     // The answer in numbers.
     pub fn numbers(self) -> CheckAnswer
-        ensures { result ≡ checkAnswer self }
+        ensures { result ≡ check_answer self }
     {
         match self {
             Checked::Accepted(f) => CheckAnswer {
@@ -235,7 +235,7 @@ impl Checked {
 impl Found {
     // The answer in numbers.
     pub fn numbers(self) -> FindAnswer
-        ensures { result ≡ findAnswer self }
+        ensures { result ≡ find_answer self }
     {
         match self {
             Found::At { offset, size } => FindAnswer {
@@ -257,7 +257,7 @@ impl Found {
 impl Done {
     // The answer in numbers.
     pub fn numbers(self) -> DoneAnswer
-        ensures { result ≡ doneAnswer self }
+        ensures { result ≡ done_answer self }
     {
         match self {
             Done::Value(value) => DoneAnswer {

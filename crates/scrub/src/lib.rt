@@ -2,11 +2,11 @@
 ghost use Rattle.std.specs.Prelude.{◌≡◌, map, ◌≤◌, ◌<◌, ◌^◌, length};
 ghost use Rattle.rules.specs.Checksum.{seal};
 ghost use Rattle.rules.specs.Leftovers.{leftover, leftovers, zeroed};
-ghost use Rattle.rules.specs.Outcome.{answer, bytesAfter};
-ghost use Rattle.rules.specs.Edit.{run, toScrub};
+ghost use Rattle.rules.specs.Outcome.{answer, bytes_after};
+ghost use Rattle.rules.specs.Edit.{run, to_scrub};
 ghost use Rattle.laws.proofs.Check.{Admitted};
 ghost use Rattle.laws.proofs.Row.{Row};
-ghost use Rattle.scrub.specs.Between.{entriesBetween};
+ghost use Rattle.scrub.specs.Between.{entries_between};
 
 use plan::fresh;
 use rules::{Done, Header};
@@ -16,8 +16,8 @@ use walk::{check, cursor};
 
 // One walk over the entries that stand from one place up to another: zero in their leftovers.
 pub fn zero_leftovers(a: &mut [u8], from: usize, to: usize)
-    requires { Row a.old from to (entriesBetween a.old from to) × (to ≤ length a.old) × (to < 2 ^ 32) }
-    ensures { a.new ≡ zeroed (map leftover (entriesBetween a.old from to)) a.old }
+    requires { Row a.old from to (entries_between a.old from to) × (to ≤ length a.old) × (to < 2 ^ 32) }
+    ensures { a.new ≡ zeroed (map leftover (entries_between a.old from to)) a.old }
 {
     let mut at = from;
     while at < to {
@@ -43,8 +43,8 @@ fn write_scrubbed(a: &mut [u8], base: u64, h: Header)
 
 // Scrubs the list. Answers its used size.
 pub fn scrub(area: &mut [u8], base: u64) -> Done
-    ensures value { result ≡ answer (run toScrub area.old base) }
-    ensures area_after { area.new ≡ bytesAfter area.old (run toScrub area.old base) }
+    ensures value { result ≡ answer (run to_scrub area.old base) }
+    ensures area_after { area.new ≡ bytes_after area.old (run to_scrub area.old base) }
 {
     let surveyed = check::survey(true, area, base, Wanted::nothing());
     let Surveyed::Accepted(_, h, _) = surveyed else {

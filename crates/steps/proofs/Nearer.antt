@@ -10,7 +10,7 @@ use lib.Seq.{get_or-set_other}
 use lib.Dec.{ltb, leb, eqb}
 use borrow.Author.Tests.{ltb-true, ltb-false, ne_eqb}
 use Rattle.wire.specs.Bytes.{field}
-use Rattle.journal.specs.Journal.{Memory, storeAll, records, kind}
+use Rattle.journal.specs.Journal.{Memory, store_all, records, kind}
 use Rattle.journal.proofs.Clearing.{and_left, and_right}
 use Rattle.steps.specs.declared.Steps.{Steps}
 use Rattle.steps.specs.declared.Store.{Store}
@@ -21,20 +21,20 @@ use Rattle.steps.specs.Steps.{
   committing,
   applying,
   clearing,
-  atEnd,
+  at_end,
   stand,
   stored,
   refuse,
   slot,
-  afterWord,
-  inRecord,
-  atWord,
+  after_word,
+  in_record,
+  at_word,
   can_write,
-  wordStep,
-  commitStep,
-  afterApply,
-  applyStep,
-  clearStep,
+  word_step,
+  commit_step,
+  after_apply,
+  apply_step,
+  clear_step,
   step_of,
   stepped,
   left,
@@ -56,8 +56,8 @@ pub record Nearer (n : ℕ) (s : Steps) (d : Step) : Type 0 where
   pub less : left n d.next < left n s
   pub within : Within n d.store
 
-in-record : (s : Steps) (j : List ℕ) → inRecord s j ≡ true → (s.index < records j) × (s.byte < 16)
-in-record s j h =
+in_record_lem : (s : Steps) (j : List ℕ) → in_record s j ≡ true → (s.index < records j) × (s.byte < 16)
+in_record_lem s j h =
     let a : Bool = ltb s.index (records j) in
     let b : Bool = ltb s.byte 16 in
     (ltb-true _ _ (and_left a b h), ltb-true _ _ (and_right a b h))
@@ -67,15 +67,15 @@ slot-low b h = choose (λ (x : ℕ). x < 16) (ltb b 15) (λ e. omega (arith, ltb
 
 module _ (s : Steps) (index byte word : ℕ) where
   near_word : (content : List ℕ) (m : Memory) → let t : Steps = stand s writing index byte word in
-      Nearer (records m.journal) t (wordStep content t m.journal m.area)
-  unfolding wordStep afterWord left
+      Nearer (records m.journal) t (word_step content t m.journal m.area)
+  unfolding word_step after_word left
   near_word content m =
       let n : ℕ = records m.journal in
       let t : Steps = stand s writing index byte word in
       let old : List ℕ = m.area in
-      let at : Bool = inRecord t m.journal in
-      choose (Nearer n t) (at && atWord t (length old) && can_write t (length old) (length content))
-      (λ h. let k = in-record t m.journal (and_left at _ (and_left (at && atWord t (length old)) _ h)) in
+      let at : Bool = in_record t m.journal in
+      choose (Nearer n t) (at && at_word t (length old) && can_write t (length old) (length content))
+      (λ h. let k = in_record_lem t m.journal (and_left at _ (and_left (at && at_word t (length old)) _ h)) in
       record {
         less = choose (λ (u : Steps). left n u < left n t) (ltb byte 15) (λ e. omega (arith, k, ltb-true byte 15 e))
             (λ e. choose (λ (u : Steps). left n u < left n t) (eqb _ (length old)) (λ _. omega (arith, k, ltb-false byte 15 e))
@@ -84,13 +84,13 @@ module _ (s : Steps) (index byte word : ℕ) where
       })
       (λ _. record { less = omega arith; within = tt })
 
-  near-commit : (m : Memory) → let t : Steps = stand s committing index byte word in Nearer (records m.journal) t (commitStep t m.journal)
-  unfolding commitStep left
-  near-commit m =
+  near_commit : (m : Memory) → let t : Steps = stand s committing index byte word in Nearer (records m.journal) t (commit_step t m.journal)
+  unfolding commit_step left
+  near_commit m =
       let n : ℕ = records m.journal in
       let t : Steps = stand s committing index byte word in
-      choose (Nearer n t) (inRecord t m.journal)
-      (λ h. let k = in-record t m.journal h in
+      choose (Nearer n t) (in_record t m.journal)
+      (λ h. let k = in_record_lem t m.journal h in
       record {
         less = choose (λ (u : Steps). left n u < left n t) (ltb byte 15) (λ e. omega (arith, k, ltb-true byte 15 e))
             (λ e. choose (λ (u : Steps). left n u < left n t) (eqb index 0) (λ _. omega (arith, k)) (λ _. omega (arith, k)));
@@ -98,9 +98,9 @@ module _ (s : Steps) (index byte word : ℕ) where
       })
       (λ _. record { less = omega arith; within = tt })
 
-  near-apply : (m : Memory) → let t : Steps = stand s applying index byte word in Nearer (records m.journal) t (applyStep t m.journal (length m.area))
-  unfolding applyStep afterApply left
-  near-apply m =
+  near_apply : (m : Memory) → let t : Steps = stand s applying index byte word in Nearer (records m.journal) t (apply_step t m.journal (length m.area))
+  unfolding apply_step after_apply left
+  near_apply m =
       let j : List ℕ = m.journal in
       let n : ℕ = records j in
       let t : Steps = stand s applying index byte word in
@@ -116,9 +116,9 @@ module _ (s : Steps) (index byte word : ℕ) where
       })
       (λ _. record { less = omega arith; within = tt })
 
-  near-clear : (m : Memory) → let t : Steps = stand s clearing index byte word in Nearer (records m.journal) t (clearStep t m.journal)
-  unfolding clearStep left
-  near-clear m =
+  near_clear : (m : Memory) → let t : Steps = stand s clearing index byte word in Nearer (records m.journal) t (clear_step t m.journal)
+  unfolding clear_step left
+  near_clear m =
       let n : ℕ = records m.journal in
       let t : Steps = stand s clearing index byte word in
       choose (Nearer n t) (ltb index n)
@@ -140,15 +140,15 @@ module _ (content : List ℕ) (s : Steps) (m : Memory) (a : eqb s.phase 0 ≡ fa
   last_of = rw (a, b, c, d, e)
 
 -- at the end nothing is left
-pub none_left : (n : ℕ) (s : Steps) → s.phase ≡ atEnd → left n s ≡ 0
+pub none_left : (n : ℕ) (s : Steps) → s.phase ≡ at_end → left n s ≡ 0
 unfolding left
 none_left n s e = rw e refl
 
 -- a phase that is none
-other-phase : (content : List ℕ) (s : Steps) (m : Memory) → atEnd < s.phase → Nearer (records m.journal) s (step_of content s m)
-other-phase content s m h = record { less = rw (out, last, none_left _ refuse.next refl) (omega arith); within = rw out tt }
+other_phase : (content : List ℕ) (s : Steps) (m : Memory) → at_end < s.phase → Nearer (records m.journal) s (step_of content s m)
+other_phase content s m h = record { less = rw (out, last, none_left _ refuse.next refl) (omega arith); within = rw out tt }
   where
-    other : (k : ℕ) → k ≤ atEnd → eqb s.phase k ≡ false
+    other : (k : ℕ) → k ≤ at_end → eqb s.phase k ≡ false
     other k l = ne_eqb s.phase k (λ z. omega (arith, z))
 
     out : step_of content s m ≡ refuse
@@ -157,33 +157,33 @@ other-phase content s m h = record { less = rw (out, last, none_left _ refuse.ne
     last : left (records m.journal) s ≡ 1
     last = last_of content s m (other 0 (omega arith)) (other 1 (omega arith)) (other 2 (omega arith)) (other 3 (omega arith)) (other 4 (omega arith))
 
-pub nearer : (content : List ℕ) (s : Steps) (m : Memory) → (s.phase ≡ atEnd → ⊥) → Nearer (records m.journal) s (step_of content s m)
+pub nearer : (content : List ℕ) (s : Steps) (m : Memory) → (s.phase ≡ at_end → ⊥) → Nearer (records m.journal) s (step_of content s m)
 unfolding step_of left
 nearer content s m = go s.phase
   where
-    go : (p : ℕ) → (p ≡ atEnd → ⊥) → let t : Steps = stand s p s.index s.byte s.word in
+    go : (p : ℕ) → (p ≡ at_end → ⊥) → let t : Steps = stand s p s.index s.byte s.word in
         Nearer (records m.journal) t (step_of content t m)
     go zero np = near_word s s.index s.byte s.word content m
-    go (suc zero) np = near-commit s s.index s.byte s.word m
-    go (suc (suc zero)) np = near-apply s s.index s.byte s.word m
-    go (suc (suc (suc zero))) np = near-clear s s.index s.byte s.word m
+    go (suc zero) np = near_commit s s.index s.byte s.word m
+    go (suc (suc zero)) np = near_apply s s.index s.byte s.word m
+    go (suc (suc (suc zero))) np = near_clear s s.index s.byte s.word m
     go (suc (suc (suc (suc zero)))) np = absurd (np refl)
-    go (suc (suc (suc (suc (suc p))))) np = other-phase content (stand s (suc (suc (suc (suc (suc p))))) s.index s.byte s.word) m (omega arith)
+    go (suc (suc (suc (suc (suc p))))) np = other_phase content (stand s (suc (suc (suc (suc (suc p))))) s.index s.byte s.word) m (omega arith)
 
 -- ---- odd bytes
 
 -- bytes behind the whole records are kept by a store within them
-kept-behind : (d : Store) (m : Memory) (p : ℕ) → Within (records m.journal) d → 16 * records m.journal ≤ p
-    → get_or (storeAll (stored d) m).journal p 0 ≡ get_or m.journal p 0
-kept-behind Nothing m p w h = refl
-kept-behind (Journal at value) m p w h = get_or-set_other m.journal at p value 0 (λ z. omega (arith, z))
-kept-behind (Area at value) m p w h = refl
+kept_behind : (d : Store) (m : Memory) (p : ℕ) → Within (records m.journal) d → 16 * records m.journal ≤ p
+    → get_or (store_all (stored d) m).journal p 0 ≡ get_or m.journal p 0
+kept_behind Nothing m p w h = refl
+kept_behind (Journal at value) m p w h = get_or-set_other m.journal at p value 0 (λ z. omega (arith, z))
+kept_behind (Area at value) m p w h = refl
 
 -- Odd bytes behind the whole records are written by no step, on any state.
-pub odd-kept : (content : List ℕ) (s : Steps) (m : Memory) (p : ℕ) → 16 * records m.journal ≤ p
+pub odd_kept : (content : List ℕ) (s : Steps) (m : Memory) (p : ℕ) → 16 * records m.journal ≤ p
     → get_or (stepped content s m).journal p 0 ≡ get_or m.journal p 0
 unfolding step_of
-odd-kept content s m p h = elim (ℕ_discrete s.phase atEnd) [
+odd_kept content s m p h = elim (ℕ_discrete s.phase at_end) [
   | yes e ↦ rw e refl
-  | no n ↦ kept-behind (step_of content s m).store m p (nearer content s m n).within h
+  | no n ↦ kept_behind (step_of content s m).store m p (nearer content s m n).within h
 ]

@@ -8,23 +8,23 @@ use lib.ListN.{get_or}
 use lib.Dec.{leb, ltb, eqb}
 use borrow.Author.Tests.{ltb-true, ltb-false, leb-true, eqb-true, lt-ltb, le-ltb, le-leb, eq-eqb}
 use Rattle.wire.specs.Bytes.{le_bytes}
-use Rattle.wire.proofs.Field.{length-leBytes, leBytes-mod}
+use Rattle.wire.proofs.Field.{length-le_bytes, le_bytes-mod}
 use Rattle.journal.specs.Journal.{body_of}
 use Rattle.journal.proofs.Clearing.{and_left, and_right}
 use Rattle.plan.specs.declared.Plan.{Plan}
-use Rattle.plan.specs.Plan.{voidSpan}
+use Rattle.plan.specs.Plan.{void_span}
 use Rattle.words.specs.Words.{Writable}
-use Rattle.words.proofs.Laws.{get_d_front, getD-back}
+use Rattle.words.proofs.Laws.{get_d_front, get_or_back}
 use Rattle.steps.specs.declared.Steps.{Steps}
 use Rattle.steps.specs.Steps.{plan_of, carrying, can_write}
 
 -- ---- a plan that can be written
 
 -- no padding, or a void's
-padding-span : (n : ℕ) → (eqb n 0 || leb 8 n) ≡ true → n ≡ voidSpan n
+padding-span : (n : ℕ) → (eqb n 0 || leb 8 n) ≡ true → n ≡ void_span n
 padding-span n h = go (eqb n 0) (leb 8 n) refl refl h
   where
-    go : (a b : Bool) → eqb n 0 ≡ a → leb 8 n ≡ b → (a || b) ≡ true → n ≡ voidSpan n
+    go : (a b : Bool) → eqb n 0 ≡ a → leb 8 n ≡ b → (a || b) ≡ true → n ≡ void_span n
     go true b ea eb h = let e : n ≡ 0 = eqb-true n 0 ea in rw (lt-ltb n 8 (omega arith)) e
     go false true ea eb h = rw (le-ltb n 8 (leb-true 8 n eb)) refl
     go false false ea eb h = absurd (let z : ◌≡◌ {A = ℕ} 0 1 = cc in omega arith)
@@ -62,52 +62,52 @@ can s len n h =
       };
     }
 
-padding-test : (n : ℕ) → n ≡ voidSpan n → (eqb n 0 || leb 8 n) ≡ true
-padding-test n h = go (ltb n 8) refl (eqb n 0)
+padding_test : (n : ℕ) → n ≡ void_span n → (eqb n 0 || leb 8 n) ≡ true
+padding_test n h = go (ltb n 8) refl (eqb n 0)
   where
-    or-true : (b : Bool) → (b || true) ≡ true
-    or-true true = refl
-    or-true false = refl
+    or_true : (b : Bool) → (b || true) ≡ true
+    or_true true = refl
+    or_true false = refl
 
     go : (a : Bool) → ltb n 8 ≡ a → (b : Bool) → (eqb n 0 || leb 8 n) ≡ true
     go true e b = let z : n ≡ 0 = rw e at h in rw (eq-eqb n 0 z) refl
-    go false e b = rw (le-leb 8 n (ltb-false n 8 e)) (or-true (eqb n 0))
+    go false e b = rw (le-leb 8 n (ltb-false n 8 e)) (or_true (eqb n 0))
 
 -- a plan that can be written passes the test
-pub can-carry : (p : Plan) (len n : ℕ) → Writable p len n → p.checksum < 256 → p.alignment < 256 → can_write (carrying p) len n ≡ true
+pub can_carry : (p : Plan) (len n : ℕ) → Writable p len n → p.checksum < 256 → p.alignment < 256 → can_write (carrying p) len n ≡ true
 unfolding can_write
-can-carry p len n w c a =
+can_carry p len n w c a =
     rw (
       lt-ltb p.checksum 256 c,
       lt-ltb p.alignment 256 a,
       le-leb 24 p.at w.low,
       eq-eqb (p.at % 8) 0 w.eights,
-      padding-test p.padding w.padding,
+      padding_test p.padding w.padding,
       le-leb (n + (p.at + p.padding + 8 + p.zeros + p.behind)) len (omega (arith, w.inside)),
     ) refl
 
 -- ---- the bytes of a word record
 
-pub word-zero : (k w : ℕ) (bytes : List ℕ) → (k ≡ 0 → ⊥) → k < 4 → get_or (1 ∷ body_of w bytes) k 0 ≡ 0
-word-zero zero w bytes h g = absurd (h refl)
-word-zero (suc zero) w bytes h g = refl
-word-zero (suc (suc zero)) w bytes h g = refl
-word-zero (suc (suc (suc zero))) w bytes h g = refl
-word-zero (suc (suc (suc (suc k)))) w bytes h g = absurd (omega arith)
+pub word_zero : (k w : ℕ) (bytes : List ℕ) → (k ≡ 0 → ⊥) → k < 4 → get_or (1 ∷ body_of w bytes) k 0 ≡ 0
+word_zero zero w bytes h g = absurd (h refl)
+word_zero (suc zero) w bytes h g = refl
+word_zero (suc (suc zero)) w bytes h g = refl
+word_zero (suc (suc (suc zero))) w bytes h g = refl
+word_zero (suc (suc (suc (suc k)))) w bytes h g = absurd (omega arith)
 
-behind-four : (k w : ℕ) (bytes : List ℕ) → 4 ≤ k → get_or (1 ∷ body_of w bytes) k 0 ≡ get_or (le_bytes 4 w ++ bytes) (k - 4) 0
-behind-four k w bytes h = getD-back (1 ∷ 0 ∷ 0 ∷ 0 ∷ []) (le_bytes 4 w ++ bytes) 4 k refl h
+behind_four : (k w : ℕ) (bytes : List ℕ) → 4 ≤ k → get_or (1 ∷ body_of w bytes) k 0 ≡ get_or (le_bytes 4 w ++ bytes) (k - 4) 0
+behind_four k w bytes h = get_or_back (1 ∷ 0 ∷ 0 ∷ 0 ∷ []) (le_bytes 4 w ++ bytes) 4 k refl h
 
-pub word-offset : (k w : ℕ) (bytes : List ℕ) → 4 ≤ k → k < 8 → get_or (1 ∷ body_of w bytes) k 0 ≡ get_or (le_bytes 4 (w % 2 ^ 32)) (k - 4) 0
-word-offset k w bytes h g =
-    behind-four k w bytes h
-    ∙ get_d_front (le_bytes 4 w) bytes 4 (k - 4) (length-leBytes 4 w) (omega arith)
-    ∙ ap (λ (l : List ℕ). get_or l (k - 4) 0) (sym-mod w)
+pub word_offset : (k w : ℕ) (bytes : List ℕ) → 4 ≤ k → k < 8 → get_or (1 ∷ body_of w bytes) k 0 ≡ get_or (le_bytes 4 (w % 2 ^ 32)) (k - 4) 0
+word_offset k w bytes h g =
+    behind_four k w bytes h
+    ∙ get_d_front (le_bytes 4 w) bytes 4 (k - 4) (length-le_bytes 4 w) (omega arith)
+    ∙ ap (λ (l : List ℕ). get_or l (k - 4) 0) (sym_mod w)
   where
-    sym-mod : (w : ℕ) → le_bytes 4 w ≡ le_bytes 4 (w % 2 ^ 32)
-    sym-mod w = rw (leBytes-mod 4 w) refl
+    sym_mod : (w : ℕ) → le_bytes 4 w ≡ le_bytes 4 (w % 2 ^ 32)
+    sym_mod w = rw (le_bytes-mod 4 w) refl
 
-pub word-data : (k w : ℕ) (bytes : List ℕ) → 8 ≤ k → get_or (1 ∷ body_of w bytes) k 0 ≡ get_or bytes (k - 8) 0
-word-data k w bytes h =
+pub word_data : (k w : ℕ) (bytes : List ℕ) → 8 ≤ k → get_or (1 ∷ body_of w bytes) k 0 ≡ get_or bytes (k - 8) 0
+word_data k w bytes h =
     let e : k - 4 - 4 ≡ k - 8 = omega arith in
-    behind-four k w bytes (omega arith) ∙ getD-back (le_bytes 4 w) bytes 4 (k - 4) (length-leBytes 4 w) (omega arith) ∙ ap (λ (i : ℕ). get_or bytes i 0) e
+    behind_four k w bytes (omega arith) ∙ get_or_back (le_bytes 4 w) bytes 4 (k - 4) (length-le_bytes 4 w) (omega arith) ∙ ap (λ (i : ℕ). get_or bytes i 0) e

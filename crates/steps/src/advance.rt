@@ -1,13 +1,13 @@
 // One step, on any state and any buffers: at most one byte is stored, and nothing else stores.
 ghost use Rattle.std.specs.Prelude.{◌≡◌, set};
-ghost use Rattle.journal.specs.Journal.{memory, storeAll};
-ghost use Rattle.steps.specs.Steps.{restStep, step_of, stored, stepped, report};
+ghost use Rattle.journal.specs.Journal.{memory, store_all};
+ghost use Rattle.steps.specs.Steps.{rest_step, step_of, stored, stepped, report};
 
 use crate::{Step, Stepped, Steps, Store, phases, record};
 
 // At the end nothing more.
 fn rest(s: Steps) -> Step
-    ensures { result ≡ restStep s }
+    ensures { result ≡ rest_step s }
 {
     Step {
         store: Store::Nothing,
@@ -49,7 +49,7 @@ fn put(a: &mut [u8], at: usize, value: u8)
 
 // What a step stores is stored.
 fn carry_out(what: Store, area: &mut [u8], journal: &mut [u8])
-    ensures { memory journal.new area.new ≡ storeAll (stored what) (memory journal.old area.old) }
+    ensures { memory journal.new area.new ≡ store_all (stored what) (memory journal.old area.old) }
 {
     match what {
         Store::Nothing => {}

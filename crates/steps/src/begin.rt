@@ -1,11 +1,11 @@
 // Where an edit and a recovery begin: all of it is decided before the first store, and nothing is stored here.
 ghost use Rattle.std.specs.Prelude.{◌≡◌, length, eqb};
-ghost use Rattle.journal.specs.Journal.{memory, records, kind, kindsUpTo, pending, fitsIn, refusesJournal};
+ghost use Rattle.journal.specs.Journal.{memory, records, kind, kinds_up_to, pending, fits_in, refuses_journal};
 ghost use Rattle.plan.specs.Plan.{after};
 ghost use Rattle.words.specs.Words.{Writable};
-ghost use Rattle.steps.specs.Steps.{recoverStart, editStart};
+ghost use Rattle.steps.specs.Steps.{recover_start, edit_start};
 ghost use Rattle.steps.specs.Survives.{GoesAsRecovery, SurvivesWhereAccepted};
-ghost use Rattle.steps.specs.Begin.{withRecord, verdictOf, beginWith};
+ghost use Rattle.steps.specs.Begin.{with_record, verdict_of, begin_with};
 
 use crate::{Steps, record};
 use plan::Plan;
@@ -13,7 +13,7 @@ use words::search;
 
 // Whether the kinds of all whole records are at most `most`.
 fn kinds_up_to(most: u8, journal: &[u8]) -> bool
-    ensures { result ≡ kindsUpTo most (records journal.now) journal.now 0 }
+    ensures { result ≡ kinds_up_to most (records journal.now) journal.now 0 }
 {
     let mut low = true;
     let mut i = journal.len() / 16;
@@ -26,7 +26,7 @@ fn kinds_up_to(most: u8, journal: &[u8]) -> bool
 
 // Whether a word at this offset lies in an area of len bytes, at a multiple of 8.
 fn fits_in(len: usize, offset: u32) -> bool
-    ensures { result ≡ fitsIn len offset }
+    ensures { result ≡ fits_in len offset }
 {
     let end = offset as usize + 8;
     (offset % 8 == 0) & (end <= len)
@@ -34,7 +34,7 @@ fn fits_in(len: usize, offset: u32) -> bool
 
 // The verdict with one record more in front.
 fn with_record(kind: u8, fits: bool, verdict: u32) -> u32
-    ensures { result ≡ withRecord kind fits verdict }
+    ensures { result ≡ with_record kind fits verdict }
 {
     if kind == 1 {
         if fits {
@@ -53,7 +53,7 @@ fn with_record(kind: u8, fits: bool, verdict: u32) -> u32
 
 // 0: there is nothing to apply; 1: words that fit; 2: words of which some do not.
 fn verdict(journal: &[u8], len: usize) -> u32
-    ensures { result ≡ verdictOf len (pending (records journal.now) journal.now 0) }
+    ensures { result ≡ verdict_of len (pending (records journal.now) journal.now 0) }
 {
     let mut v: u32 = 0;
     let mut i = journal.len() / 16;
@@ -67,7 +67,7 @@ fn verdict(journal: &[u8], len: usize) -> u32
 
 // Where a recovery begins that found this.
 fn begin_with(low: bool, whole: usize, verdict: u32, word: bool) -> Steps
-    ensures { result ≡ beginWith low whole verdict word }
+    ensures { result ≡ begin_with low whole verdict word }
 {
     if !low {
         return Steps::stopped(crate::refused(17));
@@ -97,7 +97,7 @@ fn word_first(journal: &[u8]) -> bool
 
 // A recovery's decision, on any journal.
 pub fn recover_start(area: &[u8], journal: &[u8]) -> Steps
-    ensures value { result ≡ recoverStart (memory journal.now area.now) }
+    ensures value { result ≡ recover_start (memory journal.now area.now) }
     ensures goes_as_recovery { GoesAsRecovery (memory journal.now area.now) result }
 {
     let low = kinds_up_to(2, journal);
@@ -108,7 +108,7 @@ pub fn recover_start(area: &[u8], journal: &[u8]) -> Steps
 // Refusal 16.
 fn refuses_journal(p: Plan, area: &[u8], data: &[u8], journal: &[u8]) -> bool
     requires { Writable p (length area.now) (length «data».now) }
-    ensures { result ≡ refusesJournal journal.now area.now (after p area.now «data».now) }
+    ensures { result ≡ refuses_journal journal.now area.now (after p area.now «data».now) }
 {
     let empty = kinds_up_to(0, journal);
     let words = search::changed_words(p, area, data);
@@ -118,7 +118,7 @@ fn refuses_journal(p: Plan, area: &[u8], data: &[u8], journal: &[u8]) -> bool
 // An edit's last decision, once it has its plan.
 pub fn edit_start(p: Plan, area: &[u8], data: &[u8], journal: &[u8]) -> Steps
     requires { Writable p (length area.now) (length «data».now) }
-    ensures value { result ≡ editStart p (after p area.now «data».now) (memory journal.now area.now) }
+    ensures value { result ≡ edit_start p (after p area.now «data».now) (memory journal.now area.now) }
     ensures survives_where_accepted { SurvivesWhereAccepted «data».now journal.now area.now
         (after p area.now «data».now) result }
 {

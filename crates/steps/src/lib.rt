@@ -8,7 +8,7 @@ pub mod whole;
 
 ghost use Rattle.std.specs.Prelude.{◌≡◌, ◌<◌, ◌^◌};
 ghost use Rattle.steps.specs.Steps as rule;
-ghost use Rattle.steps.specs.Steps.{stand, stopped, valueAnswer, refusalAnswer, plan_of, carrying, can_write, report};
+ghost use Rattle.steps.specs.Steps.{stand, stopped, value_answer, refusal_answer, plan_of, carrying, can_write, report};
 
 use plan::Plan;
 use rules::DoneAnswer;
@@ -194,7 +194,7 @@ fn wide(x: u32) -> usize
 
 // An answer without a place.
 pub(crate) fn valued(value: u32) -> DoneAnswer
-    ensures { result ≡ valueAnswer value }
+    ensures { result ≡ value_answer value }
 {
     DoneAnswer {
         number: 0,
@@ -205,7 +205,7 @@ pub(crate) fn valued(value: u32) -> DoneAnswer
 
 // Refusals 16 and 17 have neither value nor place.
 pub(crate) fn refused(number: u32) -> DoneAnswer
-    ensures { result ≡ refusalAnswer number }
+    ensures { result ≡ refusal_answer number }
 {
     DoneAnswer {
         number,

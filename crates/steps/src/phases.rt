@@ -1,12 +1,12 @@
 // What a step stores once the word records are written: the commit record, the words in the area, the cleared kinds.
 ghost use Rattle.std.specs.Prelude.{◌≡◌, ◌*◌, ◌/◌, ◌<◌, cond, length, ltb};
-ghost use Rattle.steps.specs.Steps.{slot as slotRule, afterCommit, commitStep, afterApply, applyStep, clearStep};
+ghost use Rattle.steps.specs.Steps.{slot as slot_rule, after_commit, commit_step, after_apply, apply_step, clear_step};
 
 use crate::{Step, Steps, Store};
 
 // The place in a record of the byte that is stored after `byte` others: 1 to 15 rising, and the kind last.
 pub(crate) fn slot(byte: u32) -> u32
-    ensures { (result ≡ slotRule byte) × (result < 16) }
+    ensures { (result ≡ slot_rule byte) × (result < 16) }
 {
     if byte < 15 {
         return byte + 1;
@@ -16,7 +16,7 @@ pub(crate) fn slot(byte: u32) -> u32
 
 // After a byte of the commit record: the next one, or the words are applied, if there are any.
 fn after_commit(s: Steps) -> Steps
-    ensures { result ≡ afterCommit s }
+    ensures { result ≡ after_commit s }
 {
     let index = s.index;
     let byte = s.byte;
@@ -42,7 +42,7 @@ fn commit_byte(byte: u32) -> u8
 
 // A byte of the commit record.
 pub(crate) fn commit_step(s: Steps, journal: &[u8]) -> Step
-    ensures { result ≡ commitStep s journal.now }
+    ensures { result ≡ commit_step s journal.now }
 {
     let index = s.index as usize;
     let byte = s.byte;
@@ -64,7 +64,7 @@ pub(crate) fn commit_step(s: Steps, journal: &[u8]) -> Step
 // After a byte of a word in the area: the next one, the next record's word, or the kinds are cleared.
 fn after_apply(s: Steps, journal: &[u8]) -> Steps
     requires { s.index < length journal.now / 16 }
-    ensures { result ≡ afterApply s journal.now }
+    ensures { result ≡ after_apply s journal.now }
 {
     let index = s.index;
     let byte = s.byte;
@@ -84,7 +84,7 @@ fn after_apply(s: Steps, journal: &[u8]) -> Steps
 
 // A byte of a word in the area, which has len bytes.
 pub(crate) fn apply_step(s: Steps, journal: &[u8], len: usize) -> Step
-    ensures { result ≡ applyStep s journal.now len }
+    ensures { result ≡ apply_step s journal.now len }
 {
     let index = s.index as usize;
     let byte = s.byte as usize;
@@ -109,7 +109,7 @@ pub(crate) fn apply_step(s: Steps, journal: &[u8], len: usize) -> Step
 
 // A kind cleared; after the last of them the end.
 pub(crate) fn clear_step(s: Steps, journal: &[u8]) -> Step
-    ensures { result ≡ clearStep s journal.now }
+    ensures { result ≡ clear_step s journal.now }
 {
     let index = s.index as usize;
     let done = s.done;

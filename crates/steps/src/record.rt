@@ -3,7 +3,7 @@ ghost use Rattle.std.specs.Prelude.{◌≡◌, ◌+◌, ◌%◌, ◌≤◌, ◌<
 ghost use Rattle.journal.specs.Journal.{part, body_of};
 ghost use Rattle.plan.specs.Plan.{after};
 ghost use Rattle.words.specs.Words.{Writable};
-ghost use Rattle.steps.specs.Steps.{toWord, afterWord, wordStep};
+ghost use Rattle.steps.specs.Steps.{to_word, after_word, word_step};
 
 use crate::{Step, Steps, Store, phases};
 use plan::Plan;
@@ -28,7 +28,7 @@ fn word_byte(p: Plan, area: &[u8], data: &[u8], word: usize, k: usize) -> u8
 
 // On to record index for the word at `word`, or for the commit where that is the area's length.
 pub(crate) fn to_word(s: Steps, len: usize, index: u64, word: usize) -> Steps
-    ensures { result ≡ toWord s len index word }
+    ensures { result ≡ to_word s len index word }
 {
     if word == len {
         return s.stand(Steps::COMMITTING, index, 0, 0);
@@ -39,7 +39,7 @@ pub(crate) fn to_word(s: Steps, len: usize, index: u64, word: usize) -> Steps
 // After a byte of a word record: the next one, or on to the next word that changes.
 fn after_word(s: Steps, p: Plan, area: &[u8], data: &[u8]) -> Steps
     requires { Writable p (length area.now) (length «data».now) × (s.word + 8 ≤ length area.now) × (s.word % 8 ≡ 0) × (s.index < 2 ^ 60) }
-    ensures { result ≡ afterWord s area.now (after p area.now «data».now) }
+    ensures { result ≡ after_word s area.now (after p area.now «data».now) }
 {
     let index = s.index;
     let byte = s.byte;
@@ -53,7 +53,7 @@ fn after_word(s: Steps, p: Plan, area: &[u8], data: &[u8]) -> Steps
 
 // A byte of a word record.
 pub(crate) fn word_step(s: Steps, journal: &[u8], area: &[u8], data: &[u8]) -> Step
-    ensures { result ≡ wordStep «data».now s journal.now area.now }
+    ensures { result ≡ word_step «data».now s journal.now area.now }
 {
     let index = s.index as usize;
     let byte = s.byte;

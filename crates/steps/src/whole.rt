@@ -1,7 +1,7 @@
 // A whole call: what was decided, and then the steps to the end.
 ghost use Rattle.std.specs.Prelude.{◌≡◌, []};
 ghost use Rattle.journal.specs.Journal.{memory};
-ghost use Rattle.steps.specs.Steps.{recoverStart, ended, toEnd, recovered};
+ghost use Rattle.steps.specs.Steps.{recover_start, ended, to_end, recovered};
 
 use crate::{Steps, advance, begin};
 use rules::DoneAnswer;
@@ -9,7 +9,7 @@ use rules::DoneAnswer;
 // The steps from any state to the end. Answers what the last of them does.
 pub fn finish(from: Steps, area: &mut [u8], data: &[u8], journal: &mut [u8]) -> DoneAnswer
     ensures { ended result (memory journal.new area.new)
-        ≡ toEnd «data».now from (memory journal.old area.old) }
+        ≡ to_end «data».now from (memory journal.old area.old) }
 {
     let mut s = from;
     while s.phase != Steps::END {
@@ -25,7 +25,7 @@ pub fn finish(from: Steps, area: &mut [u8], data: &[u8], journal: &mut [u8]) -> 
 pub fn recover(area: &mut [u8], journal: &mut [u8]) -> DoneAnswer
     ensures area_after { ended result (memory journal.new area.new) ≡ recovered (memory journal.old area.old) }
     ensures area_after_2 { ended result (memory journal.new area.new)
-        ≡ toEnd [] (recoverStart (memory journal.old area.old)) (memory journal.old area.old) }
+        ≡ to_end [] (recover_start (memory journal.old area.old)) (memory journal.old area.old) }
 {
     let s = begin::recover_start(area, journal);
     let none: [u8; 0] = [];

@@ -11,7 +11,7 @@ use lib.Seq.{drop-cons}
 use lib.Dec.{ltb, eqb}
 use borrow.Author.Tests.{le-ltb, eqb-true, not-true}
 use Rattle.rules.specs.Tags as rule
-use Rattle.rules.specs.Tags.{exceeds, breaks, breaksTable, tagTable, refusesShape}
+use Rattle.rules.specs.Tags.{exceeds, breaks, breaks_table, tag_table, refuses_shape}
 use Rattle.tags.specs.declared.TagRow.{TagRow}
 
 -- ---- rows
@@ -36,13 +36,13 @@ most-exceeds most (some m) n h l = rw h
 -- ---- the table
 
 -- the code's test of a row: it has the tag, and does not allow the length
-abbrev pub rowBreaks : TagRow → ℕ → ℕ → Bool
-rowBreaks r tag n = eqb r.tag tag && (ltb n r.least || ltb r.most n)
+abbrev pub row_breaks : TagRow → ℕ → ℕ → Bool
+row_breaks r tag n = eqb r.tag tag && (ltb n r.least || ltb r.most n)
 
 -- some row is so
-abbrev pub someBreak : List TagRow → ℕ → ℕ → Bool
-someBreak [] tag n = false
-someBreak (r ∷ rs) tag n = rowBreaks r tag n || someBreak rs tag n
+abbrev pub some_break : List TagRow → ℕ → ℕ → Bool
+some_break [] tag n = false
+some_break (r ∷ rs) tag n = row_breaks r tag n || some_break rs tag n
 
 -- no row has the tag
 abbrev absent : ℕ → List rule.TagRow → Bool
@@ -60,44 +60,44 @@ both true y h = (refl, h)
 both false y h = absurd (let z : ◌≡◌ {A = ℕ} 0 1 = cc in omega arith)
 
 -- where no row has the tag none breaks
-none-break : (xs : List TagRow) (ys : List rule.TagRow) (tag n : ℕ) → Alike xs ys → absent tag ys ≡ true → someBreak xs tag n ≡ false
-none-break [] ys tag n k h = refl
-none-break (x ∷ xs) [] tag n k h = absurd k
-none-break (x ∷ xs) (y ∷ ys) tag n k h =
+none_break : (xs : List TagRow) (ys : List rule.TagRow) (tag n : ℕ) → Alike xs ys → absent tag ys ≡ true → some_break xs tag n ≡ false
+none_break [] ys tag n k h = refl
+none_break (x ∷ xs) [] tag n k h = absurd k
+none_break (x ∷ xs) (y ∷ ys) tag n k h =
     let b = both (not (eqb y.tag tag)) (absent tag ys) h in
-    rw (k.0, not-true (eqb y.tag tag) b.0) (none-break xs ys tag n k.3 b.1)
+    rw (k.0, not-true (eqb y.tag tag) b.0) (none_break xs ys tag n k.3 b.1)
 
 -- row by row the code says what the rule's table says
-pub table-breaks : (xs : List TagRow) (ys : List rule.TagRow) (tag n : ℕ) → Alike xs ys → unique ys ≡ true → n < 2 ^ 64
-    → someBreak xs tag n ≡ breaksTable ys tag n
-unfolding breaksTable
-table-breaks [] [] tag n k h l = refl
-table-breaks [] (y ∷ ys) tag n k h l = absurd k
-table-breaks (x ∷ xs) [] tag n k h l = absurd k
-table-breaks (x ∷ xs) (y ∷ ys) tag n k h l =
-    rw (k.0, k.1, most-exceeds x.most y.most n k.2 l) (go (eqb y.tag tag) refl (table-breaks xs ys tag n k.3 b.1 l))
+pub table_breaks : (xs : List TagRow) (ys : List rule.TagRow) (tag n : ℕ) → Alike xs ys → unique ys ≡ true → n < 2 ^ 64
+    → some_break xs tag n ≡ breaks_table ys tag n
+unfolding breaks_table
+table_breaks [] [] tag n k h l = refl
+table_breaks [] (y ∷ ys) tag n k h l = absurd k
+table_breaks (x ∷ xs) [] tag n k h l = absurd k
+table_breaks (x ∷ xs) (y ∷ ys) tag n k h l =
+    rw (k.0, k.1, most-exceeds x.most y.most n k.2 l) (go (eqb y.tag tag) refl (table_breaks xs ys tag n k.3 b.1 l))
   where
     b : (absent y.tag ys ≡ true) × (unique ys ≡ true)
     b = both (absent y.tag ys) (unique ys) h
 
-    go : (t : Bool) → eqb y.tag tag ≡ t → someBreak xs tag n ≡ breaksTable ys tag n
-        → (t && breaks y n || someBreak xs tag n) ≡ cond t (breaks y n) (breaksTable ys tag n)
+    go : (t : Bool) → eqb y.tag tag ≡ t → some_break xs tag n ≡ breaks_table ys tag n
+        → (t && breaks y n || some_break xs tag n) ≡ cond t (breaks y n) (breaks_table ys tag n)
     go true t ih =
         let e : y.tag ≡ tag = eqb-true _ _ t in
-        rw (none-break xs ys tag n k.3 (rw e at b.0)) (or-false (breaks y n))
+        rw (none_break xs ys tag n k.3 (rw e at b.0)) (or-false (breaks y n))
     go false t ih = ih
 
 -- ---- the search
 
 -- the number of rows
-abbrev pub rowCount : ℕ
-rowCount = 11
+abbrev pub row_count : ℕ
+row_count = 11
 
 -- what holds when the rows before i were passed: those from there on decide as the rule's table does
 pub record Searched (rows : List TagRow) (tag n i : ℕ) : Type 0 where
-  pub within : i ≤ rowCount
-  pub alike : Alike rows tagTable
-  pub rest : someBreak (drop i rows) tag n ≡ refusesShape tag n
+  pub within : i ≤ row_count
+  pub alike : Alike rows tag_table
+  pub rest : some_break (drop i rows) tag n ≡ refuses_shape tag n
 
 -- as many rows say the same
 alike-length : (xs : List TagRow) (ys : List rule.TagRow) → Alike xs ys → length xs ≡ length ys
@@ -107,31 +107,31 @@ alike-length (x ∷ xs) [] k = absurd k
 alike-length (x ∷ xs) (y ∷ ys) k = omega (arith, alike-length xs ys k.3)
 
 -- before the first row; no two rows of the rule's table have one tag
-pub begun : (rows : List TagRow) (tag n : ℕ) → Alike rows tagTable → n < 2 ^ 64 → Searched rows tag n 0
-unfolding tagTable
-begun rows tag n k l = record { within = omega arith; alike = k; rest = table-breaks rows tagTable tag n k refl l }
+pub begun : (rows : List TagRow) (tag n : ℕ) → Alike rows tag_table → n < 2 ^ 64 → Searched rows tag n 0
+unfolding tag_table
+begun rows tag n k l = record { within = omega arith; alike = k; rest = table_breaks rows tag_table tag n k refl l }
 
 module _ {rows : List TagRow} {tag n i : ℕ} (d : TagRow) (s : Searched rows tag n i) where
   -- the row at i, and then those behind it
-  next : (b : Bool) → i < rowCount → rowBreaks (get_or rows i d) tag n ≡ b → (b || someBreak (drop (i + 1) rows) tag n) ≡ refusesShape tag n
-  unfolding tagTable
+  next : (b : Bool) → i < row_count → row_breaks (get_or rows i d) tag n ≡ b → (b || some_break (drop (i + 1) rows) tag n) ≡ refuses_shape tag n
+  unfolding tag_table
   next b l k =
-      let e : length rows ≡ rowCount = alike-length rows tagTable s.alike in
+      let e : length rows ≡ row_count = alike-length rows tag_table s.alike in
       let j : i < length rows = omega arith in
       rw (add-one, ← k) (rw (drop-cons rows i d j) at s.rest)
 
   -- a row that breaks decides
-  pub hit : i < rowCount → rowBreaks (get_or rows i d) tag n ≡ true → true ≡ refusesShape tag n
+  pub hit : i < row_count → row_breaks (get_or rows i d) tag n ≡ true → true ≡ refuses_shape tag n
   hit l k = next true l k
 
   -- any other is passed
-  pub missed : i < rowCount → rowBreaks (get_or rows i d) tag n ≡ false → Searched rows tag n (i + 1)
+  pub missed : i < row_count → row_breaks (get_or rows i d) tag n ≡ false → Searched rows tag n (i + 1)
   missed l k = record { within = omega arith; alike = s.alike; rest = next false l k }
 
 -- behind the last row nothing breaks
-pub ended : {rows : List TagRow} {tag n i : ℕ} → Searched rows tag n i → i ≡ rowCount → false ≡ refusesShape tag n
-unfolding tagTable
+pub ended : {rows : List TagRow} {tag n i : ℕ} → Searched rows tag n i → i ≡ row_count → false ≡ refuses_shape tag n
+unfolding tag_table
 ended {rows} s e =
-    let full : length rows ≡ rowCount = alike-length rows tagTable s.alike in
-    let l : length rows ≤ rowCount = omega arith in
+    let full : length rows ≡ row_count = alike-length rows tag_table s.alike in
+    let l : length rows ≤ row_count = omega arith in
     rw (e, drop_of_length-le rows l) at s.rest

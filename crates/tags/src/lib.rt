@@ -1,7 +1,7 @@
 // Refusals 9 and 10: which tags a call takes, and the tag table of data lengths that a known tag may carry.
 ghost use Rattle.std.specs.Prelude.{◌≡◌};
-ghost use Rattle.rules.specs.Refusals.{refusesTag, refusesTagAdd};
-ghost use Rattle.rules.specs.Tags.{refusesShape};
+ghost use Rattle.rules.specs.Refusals.{refuses_tag, refuses_tag_add};
+ghost use Rattle.rules.specs.Tags.{refuses_shape};
 
 use rules::certificate::Certificate;
 
@@ -80,14 +80,14 @@ const TAG_TABLE: [TagRow; ROWS] = [
 
 // Refusal 9, for every call but the adds.
 pub fn refuses_tag(tag: u32) -> bool
-    ensures { result ≡ refusesTag tag }
+    ensures { result ≡ refuses_tag tag }
 {
     (tag == 0) | (0xffffff < tag)
 }
 
 // Refusal 9, for the adds.
 pub fn refuses_tag_add(tag: u32) -> bool
-    ensures { result ≡ refusesTagAdd tag }
+    ensures { result ≡ refuses_tag_add tag }
 {
     refuses_tag(tag) | ((0x800000 <= tag) & (tag <= 0xffefff))
 }
@@ -95,7 +95,7 @@ pub fn refuses_tag_add(tag: u32) -> bool
 // Refusal 10: the length n breaks the tag table. A tag that is not listed may carry any length. No two rows have one tag, so that a
 // row may be judged by itself.
 pub fn refuses_shape(tag: u32, n: usize) -> bool
-    ensures { result ≡ refusesShape tag n }
+    ensures { result ≡ refuses_shape tag n }
 {
     let table = TAG_TABLE;
     let mut i: usize = 0;

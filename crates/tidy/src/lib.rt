@@ -1,10 +1,10 @@
 // Tidy: each run of neighbouring voids becomes one void, its data zero, and those at the end are given back.
 ghost use Rattle.std.specs.Prelude.{◌≡◌};
-ghost use Rattle.rules.specs.Entries.{entriesOf};
+ghost use Rattle.rules.specs.Entries.{entries_of};
 ghost use Rattle.rules.specs.Checksum.{seal};
-ghost use Rattle.rules.specs.Outcome.{answer, bytesAfter};
-ghost use Rattle.rules.specs.Tidy.{tidied, writeVoids, tidyUsed, tidyBytes};
-ghost use Rattle.rules.specs.Edit.{run, toTidy};
+ghost use Rattle.rules.specs.Outcome.{answer, bytes_after};
+ghost use Rattle.rules.specs.Tidy.{tidied, write_voids, tidy_used, tidy_bytes};
+ghost use Rattle.rules.specs.Edit.{run, to_tidy};
 ghost use Rattle.laws.proofs.Check.{Admitted};
 
 use plan::{fresh, write};
@@ -17,8 +17,8 @@ use walk::wanted::Wanted;
 // voids, and becomes one void. Answers the end of the last live entry.
 fn join_voids(a: &mut [u8], base: u64, h: Header) -> u32
     requires { Admitted a.old base h }
-    ensures value { result ≡ tidyUsed a.old }
-    ensures a_after { a.new ≡ writeVoids (tidied (entriesOf a.old)) a.old }
+    ensures value { result ≡ tidy_used a.old }
+    ensures a_after { a.new ≡ write_voids (tidied (entries_of a.old)) a.old }
 {
     let used = h.used_size as usize;
     let mut end = Header::SIZE as usize;
@@ -38,8 +38,8 @@ fn join_voids(a: &mut [u8], base: u64, h: Header) -> u32
 // The tidy list: the runs, zero in the bytes that are given back, used_size and the checksum. Answers the new used size.
 fn write_tidy(a: &mut [u8], base: u64, h: Header) -> u32
     requires { Admitted a.old base h }
-    ensures value { result ≡ tidyUsed a.old }
-    ensures a_after { a.new ≡ seal (tidyBytes a.old) }
+    ensures value { result ≡ tidy_used a.old }
+    ensures a_after { a.new ≡ seal (tidy_bytes a.old) }
 {
     let used = join_voids(a, base, h);
     let end = used as usize;
@@ -52,8 +52,8 @@ fn write_tidy(a: &mut [u8], base: u64, h: Header) -> u32
 
 // Tidies the list. Answers the new used size.
 pub fn tidy(area: &mut [u8], base: u64) -> Done
-    ensures value { result ≡ answer (run toTidy area.old base) }
-    ensures area_after { area.new ≡ bytesAfter area.old (run toTidy area.old base) }
+    ensures value { result ≡ answer (run to_tidy area.old base) }
+    ensures area_after { area.new ≡ bytes_after area.old (run to_tidy area.old base) }
 {
     let surveyed = clean::admit(area, base, Wanted::nothing());
     let Surveyed::Accepted(_, h, _) = surveyed else {

@@ -5,18 +5,18 @@
 // functions are relations, each of which settles the answer: `checked-only`, `lookup-only`, `part-only`. Of request 9's calls, `Begins` is what
 // holds of the steps that a call has decided on, and `Journalled` what a whole form is promised to do; a step and a recovery have equations.
 ghost use Rattle.std.specs.Prelude.{◌≡◌, ◌+◌, []};
-ghost use Rattle.rules.specs.Check.{check as checkRule, checkAnswer};
-ghost use Rattle.rules.specs.Find.{find as findRule, findAnswer, findData, partOffset};
-ghost use Rattle.rules.specs.Outcome.{answer, bytesAfter, doneAnswer};
-ghost use Rattle.rules.specs.Create.{create as createRule};
-ghost use Rattle.rules.specs.Edit.{toAdd, toAddAligned, toVoid, toRelocate, toTidy, toScrub};
+ghost use Rattle.rules.specs.Check.{check as check_rule, check_answer};
+ghost use Rattle.rules.specs.Find.{find as find_rule, find_answer, find_data, part_offset};
+ghost use Rattle.rules.specs.Outcome.{answer, bytes_after, done_answer};
+ghost use Rattle.rules.specs.Create.{create as create_rule};
+ghost use Rattle.rules.specs.Edit.{to_add, to_add_aligned, to_void, to_relocate, to_tidy, to_scrub};
 ghost use Rattle.rules.specs.Demand3.{Promised, Keeps};
-ghost use Rattle.rules.specs.Edition09.{check09, find09, findData09, ConvertPromised};
-ghost use Rattle.rules.specs.Certificate.{certify as certifyRule, certifiedAnswer};
+ghost use Rattle.rules.specs.Edition09.{check09, find09, find_data09, ConvertPromised};
+ghost use Rattle.rules.specs.Certificate.{certify as certify_rule, certified_answer};
 ghost use Rattle.journal.specs.Journal.{memory};
-ghost use Rattle.steps.specs.Steps.{step_of, stepped, report, recoverStart, ended, toEnd, recovered};
+ghost use Rattle.steps.specs.Steps.{step_of, stepped, report, recover_start, ended, to_end, recovered};
 ghost use Rattle.steps.specs.Survives.{GoesAsRecovery};
-ghost use Rattle.journalled.specs.Journalled.{startFor, Begins, Journalled};
+ghost use Rattle.journalled.specs.Journalled.{start_for, Begins, Journalled};
 ghost use Rattle.devicetree.specs.Tree.{Checked as FdtChecked};
 ghost use Rattle.lookup.specs.Lookup.{Lookup, LookupPart};
 
@@ -38,7 +38,7 @@ use walk::{check, find};
 // Checks the list in area, which stands at base.
 #[unsafe(no_mangle)]
 pub extern "C" fn tl_check(area: &[u8], base: u64) -> CheckAnswer
-    ensures { result ≡ checkAnswer (checkRule area.now base) }
+    ensures { result ≡ check_answer (check_rule area.now base) }
 {
     check::check(area, base).numbers()
 }
@@ -46,7 +46,7 @@ pub extern "C" fn tl_check(area: &[u8], base: u64) -> CheckAnswer
 // Finds the data of occurrence n of a tag.
 #[unsafe(no_mangle)]
 pub extern "C" fn tl_find(area: &[u8], base: u64, tag: u32, n: u64) -> FindAnswer
-    ensures { result ≡ findAnswer (findRule area.now base tag n) }
+    ensures { result ≡ find_answer (find_rule area.now base tag n) }
 {
     find::find(area, base, tag, n).numbers()
 }
@@ -54,9 +54,9 @@ pub extern "C" fn tl_find(area: &[u8], base: u64, tag: u32, n: u64) -> FindAnswe
 // The data itself, as a part of the caller's area; the empty part where find refuses. C has no such result: there the header's tl_data
 // makes a pointer of tl_find's answer.
 pub fn tl_find_data(area: &[u8], base: u64, tag: u32, n: u64) -> &[u8]
-    ensures result_value { result.now ≡ findData area.now base tag n }
+    ensures result_value { result.now ≡ find_data area.now base tag n }
     ensures ref_ptr_value { result.ref_ptr.0 ≡ area.entry.ref_ptr.0 }
-    ensures ref_ptr_value_2 { result.ref_ptr.1 ≡ area.entry.ref_ptr.1 + partOffset (findRule area.now base tag n) }
+    ensures ref_ptr_value_2 { result.ref_ptr.1 ≡ area.entry.ref_ptr.1 + part_offset (find_rule area.now base tag n) }
 {
     find::find_data(area, base, tag, n)
 }
@@ -64,8 +64,8 @@ pub fn tl_find_data(area: &[u8], base: u64, tag: u32, n: u64) -> &[u8]
 // Writes a new list without entries. Answers the total.
 #[unsafe(no_mangle)]
 pub extern "C" fn tl_create(area: &mut [u8], base: u64, has_checksum: bool) -> DoneAnswer
-    ensures value { result ≡ doneAnswer (answer (createRule area.old base has_checksum)) }
-    ensures area_after { area.new ≡ bytesAfter area.old (createRule area.old base has_checksum) }
+    ensures value { result ≡ done_answer (answer (create_rule area.old base has_checksum)) }
+    ensures area_after { area.new ≡ bytes_after area.old (create_rule area.old base has_checksum) }
 {
     create::create(area, base, has_checksum).numbers()
 }
@@ -79,7 +79,7 @@ pub extern "C" fn tl_add(
     data: &[u8],
     use_voids: bool,
 ) -> DoneAnswer
-    ensures { Promised (toAdd tag «data».now use_voids) area.old base result area.new }
+    ensures { Promised (to_add tag «data».now use_voids) area.old base result area.new }
 {
     edits::add(area, base, tag, data, use_voids).numbers()
 }
@@ -93,7 +93,7 @@ pub extern "C" fn tl_add_aligned(
     data: &[u8],
     exponent: u32,
 ) -> DoneAnswer
-    ensures { Promised (toAddAligned tag «data».now exponent) area.old base result area.new }
+    ensures { Promised (to_add_aligned tag «data».now exponent) area.old base result area.new }
 {
     edits::add_aligned(area, base, tag, data, exponent).numbers()
 }
@@ -101,7 +101,7 @@ pub extern "C" fn tl_add_aligned(
 // Turns occurrence n of a tag into a void. Answers the voided entry's offset.
 #[unsafe(no_mangle)]
 pub extern "C" fn tl_void(area: &mut [u8], base: u64, tag: u32, n: u64) -> DoneAnswer
-    ensures { Promised (toVoid tag n) area.old base result area.new }
+    ensures { Promised (to_void tag n) area.old base result area.new }
 {
     edits::void(area, base, tag, n).numbers()
 }
@@ -114,7 +114,7 @@ pub extern "C" fn tl_relocate(
     target: &mut [u8],
     target_base: u64,
 ) -> DoneAnswer
-    ensures { Promised (toRelocate target.old target_base) area.now base result target.new }
+    ensures { Promised (to_relocate target.old target_base) area.now base result target.new }
 {
     relocate::relocate(area, base, target, target_base).numbers()
 }
@@ -122,7 +122,7 @@ pub extern "C" fn tl_relocate(
 // Checks the list of edition 0.9 in area, which stands at base.
 #[unsafe(no_mangle)]
 pub extern "C" fn tl09_check(area: &[u8], base: u64) -> CheckAnswer
-    ensures { result ≡ checkAnswer (check09 area.now base) }
+    ensures { result ≡ check_answer (check09 area.now base) }
 {
     check::check_of(Format::Edition09, area, base).numbers()
 }
@@ -130,16 +130,16 @@ pub extern "C" fn tl09_check(area: &[u8], base: u64) -> CheckAnswer
 // Finds the data of occurrence n of a tag in a list of edition 0.9.
 #[unsafe(no_mangle)]
 pub extern "C" fn tl09_find(area: &[u8], base: u64, tag: u32, n: u64) -> FindAnswer
-    ensures { result ≡ findAnswer (find09 area.now base tag n) }
+    ensures { result ≡ find_answer (find09 area.now base tag n) }
 {
     find::find_of(Format::Edition09, area, base, tag, n).numbers()
 }
 
 // The data itself, as a part of the caller's area; the empty part where tl09_find refuses.
 pub fn tl09_find_data(area: &[u8], base: u64, tag: u32, n: u64) -> &[u8]
-    ensures result_value { result.now ≡ findData09 area.now base tag n }
+    ensures result_value { result.now ≡ find_data09 area.now base tag n }
     ensures ref_ptr_value { result.ref_ptr.0 ≡ area.entry.ref_ptr.0 }
-    ensures ref_ptr_value_2 { result.ref_ptr.1 ≡ area.entry.ref_ptr.1 + partOffset (find09 area.now base tag n) }
+    ensures ref_ptr_value_2 { result.ref_ptr.1 ≡ area.entry.ref_ptr.1 + part_offset (find09 area.now base tag n) }
 {
     find::find_data_of(Format::Edition09, area, base, tag, n)
 }
@@ -160,7 +160,7 @@ pub extern "C" fn tl09_convert(
 // Tidies the list's voids. Answers the new used size.
 #[unsafe(no_mangle)]
 pub extern "C" fn tl_tidy(area: &mut [u8], base: u64) -> DoneAnswer
-    ensures { Promised toTidy area.old base result area.new }
+    ensures { Promised to_tidy area.old base result area.new }
 {
     tidy::tidy(area, base).numbers()
 }
@@ -168,7 +168,7 @@ pub extern "C" fn tl_tidy(area: &mut [u8], base: u64) -> DoneAnswer
 // The reading of the list's one test certificate, if it is that of this serial and test, and whether it passes its gate.
 #[unsafe(no_mangle)]
 pub extern "C" fn tl_certificate(area: &[u8], base: u64, serial: u64, test: u64) -> CertifiedAnswer
-    ensures { result ≡ certifiedAnswer (certifyRule area.now base serial test) }
+    ensures { result ≡ certified_answer (certify_rule area.now base serial test) }
 {
     certify::certify(area, base, serial, test).numbers()
 }
@@ -207,9 +207,9 @@ pub extern "C" fn tl_add_journalled(
     use_voids: bool,
     journal: &mut [u8],
 ) -> DoneAnswer
-    ensures journalled { Journalled (toAdd tag «data».now use_voids) journal.old area.old base
+    ensures journalled { Journalled (to_add tag «data».now use_voids) journal.old area.old base
         (ended result (memory journal.new area.new)) }
-    ensures keeps { Keeps (toAdd tag «data».now use_voids) area.old base result area.new }
+    ensures keeps { Keeps (to_add tag «data».now use_voids) area.old base result area.new }
 {
     forms::add(area, base, tag, data, use_voids, journal)
 }
@@ -224,9 +224,9 @@ pub extern "C" fn tl_add_aligned_journalled(
     exponent: u32,
     journal: &mut [u8],
 ) -> DoneAnswer
-    ensures journalled { Journalled (toAddAligned tag «data».now exponent) journal.old area.old base
+    ensures journalled { Journalled (to_add_aligned tag «data».now exponent) journal.old area.old base
         (ended result (memory journal.new area.new)) }
-    ensures keeps { Keeps (toAddAligned tag «data».now exponent) area.old base result area.new }
+    ensures keeps { Keeps (to_add_aligned tag «data».now exponent) area.old base result area.new }
 {
     forms::add_aligned(area, base, tag, data, exponent, journal)
 }
@@ -240,9 +240,9 @@ pub extern "C" fn tl_void_journalled(
     n: u64,
     journal: &mut [u8],
 ) -> DoneAnswer
-    ensures journalled { Journalled (toVoid tag n) journal.old area.old base
+    ensures journalled { Journalled (to_void tag n) journal.old area.old base
         (ended result (memory journal.new area.new)) }
-    ensures keeps { Keeps (toVoid tag n) area.old base result area.new }
+    ensures keeps { Keeps (to_void tag n) area.old base result area.new }
 {
     forms::void(area, base, tag, n, journal)
 }
@@ -252,7 +252,7 @@ pub extern "C" fn tl_void_journalled(
 pub extern "C" fn tl_recover(area: &mut [u8], journal: &mut [u8]) -> DoneAnswer
     ensures area_after { ended result (memory journal.new area.new) ≡ recovered (memory journal.old area.old) }
     ensures area_after_2 { ended result (memory journal.new area.new)
-        ≡ toEnd [] (recoverStart (memory journal.old area.old)) (memory journal.old area.old) }
+        ≡ to_end [] (recover_start (memory journal.old area.old)) (memory journal.old area.old) }
 {
     whole::recover(area, journal)
 }
@@ -267,8 +267,8 @@ pub extern "C" fn tl_add_steps(
     use_voids: bool,
     journal: &[u8],
 ) -> Stepped
-    ensures value { result ≡ report (startFor (toAdd tag «data».now use_voids) journal.now area.now base) }
-    ensures begins { Begins (toAdd tag «data».now use_voids) journal.now area.now base }
+    ensures value { result ≡ report (start_for (to_add tag «data».now use_voids) journal.now area.now base) }
+    ensures begins { Begins (to_add tag «data».now use_voids) journal.now area.now base }
 {
     starts::add(area, base, tag, data, use_voids, journal).report()
 }
@@ -283,8 +283,8 @@ pub extern "C" fn tl_add_aligned_steps(
     exponent: u32,
     journal: &[u8],
 ) -> Stepped
-    ensures value { result ≡ report (startFor (toAddAligned tag «data».now exponent) journal.now area.now base) }
-    ensures begins { Begins (toAddAligned tag «data».now exponent) journal.now area.now base }
+    ensures value { result ≡ report (start_for (to_add_aligned tag «data».now exponent) journal.now area.now base) }
+    ensures begins { Begins (to_add_aligned tag «data».now exponent) journal.now area.now base }
 {
     starts::add_aligned(area, base, tag, data, exponent, journal).report()
 }
@@ -292,8 +292,8 @@ pub extern "C" fn tl_add_aligned_steps(
 // Decides a void with a journal, and stores nothing.
 #[unsafe(no_mangle)]
 pub extern "C" fn tl_void_steps(area: &[u8], base: u64, tag: u32, n: u64, journal: &[u8]) -> Stepped
-    ensures value { result ≡ report (startFor (toVoid tag n) journal.now area.now base) }
-    ensures begins { Begins (toVoid tag n) journal.now area.now base }
+    ensures value { result ≡ report (start_for (to_void tag n) journal.now area.now base) }
+    ensures begins { Begins (to_void tag n) journal.now area.now base }
 {
     starts::void(area, base, tag, n, journal).report()
 }
@@ -301,7 +301,7 @@ pub extern "C" fn tl_void_steps(area: &[u8], base: u64, tag: u32, n: u64, journa
 // Decides a recovery, and stores nothing.
 #[unsafe(no_mangle)]
 pub extern "C" fn tl_recover_steps(area: &[u8], journal: &[u8]) -> Stepped
-    ensures value { result ≡ report (recoverStart (memory journal.now area.now)) }
+    ensures value { result ≡ report (recover_start (memory journal.now area.now)) }
     ensures goes_as_recovery { GoesAsRecovery (memory journal.now area.now) result.state }
 {
     begin::recover_start(area, journal).report()
@@ -320,7 +320,7 @@ pub extern "C" fn tl_step(state: Steps, area: &mut [u8], data: &[u8], journal: &
 // Scrubs the list: zero in its leftovers. Answers its used size.
 #[unsafe(no_mangle)]
 pub extern "C" fn tl_scrub(area: &mut [u8], base: u64) -> DoneAnswer
-    ensures { Promised toScrub area.old base result area.new }
+    ensures { Promised to_scrub area.old base result area.new }
 {
     scrub::scrub(area, base).numbers()
 }

@@ -4,10 +4,10 @@ use mathlib.Core.Option.{Option, none, some}
 use Rattle.rules.specs.declared.Header.{Header}
 use Rattle.rules.specs.declared.Refusal.{Refusal}
 use Rattle.rules.specs.declared.Refusal.TheVariants.{Entry}
-use Rattle.rules.specs.Header.{headerOf}
+use Rattle.rules.specs.Header.{header_of}
 use Rattle.rules.specs.Edition.{Edition}
-use Rattle.rules.specs.Entries.{Walk, entries, broken, firstEntry, seen}
-use Rattle.rules.specs.Check.{walked, headerRefusal}
+use Rattle.rules.specs.Entries.{Walk, entries, broken, first_entry, seen}
+use Rattle.rules.specs.Check.{walked, header_refusal}
 use Rattle.rules.specs.Edition09.{edition09}
 use Rattle.laws.proofs.Walk.{header-least}
 use Rattle.laws.proofs.Check as laws
@@ -19,9 +19,9 @@ use Rattle.walk.specs.declared.cursor.Walked.TheVariants.{Counts, Broken}
 use Rattle.walk.specs.declared.wanted.Wanted.{Wanted}
 use Rattle.walk.specs.declared.check.Surveyed.{Surveyed}
 use Rattle.walk.specs.declared.check.Surveyed.TheVariants as survey
-use Rattle.walk.specs.Format.{editionOf}
-use Rattle.walk.specs.Headed.{headed, headedOf}
-use Rattle.walk.specs.Wanted.{wantedOf, told}
+use Rattle.walk.specs.Format.{edition_of}
+use Rattle.walk.specs.Headed.{headed, headed_of}
+use Rattle.walk.specs.Wanted.{wanted_of, told}
 use Rattle.walk.specs.Survey.{surveyed}
 
 -- ---- the header
@@ -39,18 +39,18 @@ module _ (h : Header) where
 
 -- what a good header tells
 pub record GoodHeader (ed : Edition) (editing : Bool) (a : List ℕ) (base : ℕ) (h : Header) : Type 0 where
-  pub passed : headerRefusal ed editing base (length a) (headerOf a) ≡ none
-  pub same : h ≡ headerOf a
-  pub least : ed.headerSize ≤ h.used_size
-  pub first : firstEntry h ≤ h.used_size
+  pub passed : header_refusal ed editing base (length a) (header_of a) ≡ none
+  pub same : h ≡ header_of a
+  pub least : ed.header_size ≤ h.used_size
+  pub first : first_entry h ≤ h.used_size
   pub used : h.used_size ≤ length a
 
 module _ (ed : Edition) (editing : Bool) (a : List ℕ) (base : ℕ) where
-  pub good-header : (h : Header) → headedOf ed editing a base ≡ Good h → GoodHeader ed editing a base h
-  good-header h k =
-      let p = unrefused (headerOf a) _ h k in
-      let z = (laws.header-sound ed editing base (length a) (headerOf a) p.0).0.sizes in
-      let least = header-least (headerOf a).version ed.headerSize _ z.header in
+  pub good_header : (h : Header) → headed_of ed editing a base ≡ Good h → GoodHeader ed editing a base h
+  good_header h k =
+      let p = unrefused (header_of a) _ h k in
+      let z = (laws.header-sound ed editing base (length a) (header_of a) p.0).0.sizes in
+      let least = header-least (header_of a).version ed.header_size _ z.header in
       record {
         passed = p.0;
         same = p.1;
@@ -60,12 +60,12 @@ module _ (ed : Edition) (editing : Bool) (a : List ℕ) (base : ℕ) where
       }
 
   -- and a refused one
-  pub bad-header : (r : Refusal) → headedOf ed editing a base ≡ Refused r
-      → headerRefusal ed editing base (length a) (headerOf a) ≡ some r
-  bad-header r k = why (headerOf a) _ r k
+  pub bad_header : (r : Refusal) → headed_of ed editing a base ≡ Refused r
+      → header_refusal ed editing base (length a) (header_of a) ≡ some r
+  bad_header r k = why (header_of a) _ r k
 
 -- edition 0.9's header is the shortest
-pub shortest : (f : Format) → edition09.headerSize ≤ (editionOf f).headerSize
+pub shortest : (f : Format) → edition09.header_size ≤ (edition_of f).header_size
 shortest Current = omega arith
 shortest Edition09 = omega arith
 
@@ -87,6 +87,6 @@ answered h (Counts live voids x) =
     x
 answered h (Broken at) = survey.Refused (Entry at)
 
-pub walk-answers : (h : Header) (w : Wanted) (x : Walk) → surveyed h (wantedOf w (seen x)) (walked h x) ≡ answered h (told w x)
+pub walk-answers : (h : Header) (w : Wanted) (x : Walk) → surveyed h (wanted_of w (seen x)) (walked h x) ≡ answered h (told w x)
 walk-answers h w (entries es) = refl
 walk-answers h w (broken at) = refl

@@ -7,12 +7,12 @@ use Rattle.rules.specs.Entries.{
   entries,
   broken,
   follow,
-  entryAt,
+  entry_at,
   span,
-  badEntry,
-  walkFrom,
-  liveCount,
-  voidCount,
+  bad_entry,
+  walk_from,
+  live_count,
+  void_count,
 }
 use Rattle.laws.proofs.Walk.{Bounded, bounded, walk_end, walk-next, walk-broken}
 use Rattle.walk.specs.declared.cursor.Step.{Step}
@@ -23,26 +23,26 @@ use Rattle.walk.specs.declared.wanted.Wanted.{Wanted}
 use Rattle.walk.specs.declared.wanted.Sought.{Sought}
 use Rattle.walk.specs.declared.wanted.Sought.TheVariants.{At, Nothing}
 use Rattle.walk.specs.declared.wanted.Memory.{Memory}
-use Rattle.walk.specs.Cursor.{stepAt}
-use Rattle.walk.specs.Wanted.{wants, wantedIn, sought, told, forgetful, remembered}
+use Rattle.walk.specs.Cursor.{step_at}
+use Rattle.walk.specs.Wanted.{wants, wanted_in, sought, told, forgetful, remembered}
 
 -- ---- the walk
 
 module _ (version : ℕ) (a : List ℕ) (used at : ℕ) where
   -- what a step tells: the walk ends, or is broken here, or goes on behind an entry of eight bytes or more
   abbrev pub Tells : Step → Type 0
-  Tells End = walkFrom version a used at ≡ entries []
-  Tells Broken = walkFrom version a used at ≡ broken at
+  Tells End = walk_from version a used at ≡ entries []
+  Tells Broken = walk_from version a used at ≡ broken at
   Tells (Next e d) =
-      (at + 8 ≤ d.at) × (d.at ≤ used) × (walkFrom version a used at ≡ follow e (walkFrom version a used d.at))
+      (at + 8 ≤ d.at) × (d.at ≤ used) × (walk_from version a used at ≡ follow e (walk_from version a used d.at))
 
   -- each step tells the walk
-  pub step-tells : (x : Step) → at ≤ used → stepAt version a used at ≡ x → Tells x
-  unfolding stepAt entryAt
-  step-tells x h k = subst Tells k (go (eqb at used) (badEntry version (used - at) (entryAt a at)) refl refl)
+  pub step_tells : (x : Step) → at ≤ used → step_at version a used at ≡ x → Tells x
+  unfolding step_at entry_at
+  step_tells x h k = subst Tells k (go (eqb at used) (bad_entry version (used - at) (entry_at a at)) refl refl)
     where
-      go : (s b : Bool) → eqb at used ≡ s → badEntry version (used - at) (entryAt a at) ≡ b
-          → Tells (cond s End (cond b Broken (Next (entryAt a at) (record { at = at + span (entryAt a at) }))))
+      go : (s b : Bool) → eqb at used ≡ s → bad_entry version (used - at) (entry_at a at) ≡ b
+          → Tells (cond s End (cond b Broken (Next (entry_at a at) (record { at = at + span (entry_at a at) }))))
       go true b p q = let e : at ≡ used = eqb-true at used p in rw e (walk_end version a used)
       go false true p q =
           let n = eqb-false at used p in
@@ -51,7 +51,7 @@ module _ (version : ℕ) (a : List ℕ) (used at : ℕ) where
       go false false p q =
           let n = eqb-false at used p in
           let l : at < used = omega (arith, n) in
-          let g : Bounded (used - at) (entryAt a at) = bounded version (used - at) (entryAt a at) q in
+          let g : Bounded (used - at) (entry_at a at) = bounded version (used - at) (entry_at a at) q in
           (omega arith, omega arith, walk-next version a used at l q)
 
 -- ---- counting and remembering
@@ -62,33 +62,33 @@ or_else (At e) x = At e
 or_else Nothing x = x
 
 abbrev recalled : Wanted → Memory → List Entry → Sought
-recalled w m es = or_else m.found (sought (wantedIn w.tag w.least m.left es))
+recalled w m es = or_else m.found (sought (wanted_in w.tag w.least m.left es))
 
 -- what a walk tells behind entries that were counted and remembered
-unfoldable pub toldFrom : Wanted → ℕ → ℕ → Memory → Walk → Walked
-toldFrom w live voids m (entries es) = walked.Counts (live + liveCount es) (voids + voidCount es) (recalled w m es)
-toldFrom w live voids m (broken at) = walked.Broken at
+unfoldable pub told_from : Wanted → ℕ → ℕ → Memory → Walk → Walked
+told_from w live voids m (entries es) = walked.Counts (live + live_count es) (voids + void_count es) (recalled w m es)
+told_from w live voids m (broken at) = walked.Broken at
 
 -- before the first entry that is all that it tells
-pub told-first : (w : Wanted) (x : Walk) → toldFrom w 0 0 (forgetful w) x ≡ told w x
-unfolding toldFrom
+pub told-first : (w : Wanted) (x : Walk) → told_from w 0 0 (forgetful w) x ≡ told w x
+unfolding told_from
 told-first w (entries es) = simp zero-add
 told-first w (broken at) = refl
 
 module _ (w : Wanted) (live voids : ℕ) (m : Memory) where
   -- behind the last entry nothing is added
-  pub told-last : toldFrom w live voids m (entries []) ≡ walked.Counts live voids m.found
-  unfolding toldFrom liveCount voidCount wantedIn
+  pub told-last : told_from w live voids m (entries []) ≡ walked.Counts live voids m.found
+  unfolding told_from live_count void_count wanted_in
   told-last = go m.found refl
     where
-      go : (x : Sought) → m.found ≡ x → toldFrom w live voids m (entries []) ≡ walked.Counts live voids x
+      go : (x : Sought) → m.found ≡ x → told_from w live voids m (entries []) ≡ walked.Counts live voids x
       go (At e) p = simp (p, add-zero)
       go Nothing p = simp (p, add-zero)
 
   module _ (e : Entry) where
     -- an entry is remembered as the wanted one is searched
     recalls : (es : List Entry) → recalled w m (e ∷ es) ≡ recalled w (remembered w e m) es
-    unfolding wantedIn
+    unfolding wanted_in
     recalls es = go (wants w.tag w.least e) (eqb m.left 0) m.found refl refl refl
       where
         go : (k z : Bool) (x : Sought) → wants w.tag w.least e ≡ k → eqb m.left 0 ≡ z → m.found ≡ x
@@ -99,18 +99,18 @@ module _ (w : Wanted) (live voids : ℕ) (m : Memory) where
         go false z x p q r = simp p
 
     -- a void counts among the voids
-    pub told-void : (x : Walk) → e.tag_id ≡ 0 → toldFrom w live voids m (follow e x) ≡ toldFrom w live (voids + 1) (remembered w e m) x
-    unfolding toldFrom liveCount voidCount
+    pub told-void : (x : Walk) → e.tag_id ≡ 0 → told_from w live voids m (follow e x) ≡ told_from w live (voids + 1) (remembered w e m) x
+    unfolding told_from live_count void_count
     told-void (entries es) h =
-        let n : voids + (1 + voidCount es) ≡ voids + 1 + voidCount es = omega arith in
+        let n : voids + (1 + void_count es) ≡ voids + 1 + void_count es = omega arith in
         rw (recalls es) (simp (eq-eqb _ _ h, n))
     told-void (broken at) h = refl
 
     -- every other entry among the live ones
     pub told-live : (x : Walk) → (e.tag_id ≡ 0 → ⊥)
-        → toldFrom w live voids m (follow e x) ≡ toldFrom w (live + 1) voids (remembered w e m) x
-    unfolding toldFrom liveCount voidCount
+        → told_from w live voids m (follow e x) ≡ told_from w (live + 1) voids (remembered w e m) x
+    unfolding told_from live_count void_count
     told-live (entries es) h =
-        let n : live + (1 + liveCount es) ≡ live + 1 + liveCount es = omega arith in
+        let n : live + (1 + live_count es) ≡ live + 1 + live_count es = omega arith in
         rw (recalls es) (simp (ne_eqb _ _ h, n))
     told-live (broken at) h = refl

@@ -4,9 +4,9 @@ use Rattle.std.proofs.Math.Option.{Option, none, some}
 use Rattle.rules.specs.declared.Header.{Header}
 use Rattle.rules.specs.declared.Refusal.{Refusal}
 use Rattle.rules.specs.declared.Refusal.TheVariants.{Area}
-use Rattle.rules.specs.Header.{headerOf}
+use Rattle.rules.specs.Header.{header_of}
 use Rattle.rules.specs.Edition.{Edition}
-use Rattle.rules.specs.Check.{headerRefusal}
+use Rattle.rules.specs.Check.{header_refusal}
 use Rattle.walk.specs.declared.header.Headed.{Headed}
 use Rattle.walk.specs.declared.header.Headed.TheVariants.{Good, Refused}
 
@@ -16,10 +16,10 @@ headed h (some r) = Refused r
 headed h none = Good h
 
 -- of the bytes of an edition's list at a base
-abbrev pub headedOf : Edition → Bool → List ℕ → ℕ → Headed
-headedOf ed editing a base = headed (headerOf a) (headerRefusal ed editing base (length a) (headerOf a))
+abbrev pub headed_of : Edition → Bool → List ℕ → ℕ → Headed
+headed_of ed editing a base = headed (header_of a) (header_refusal ed editing base (length a) (header_of a))
 
 -- why a header was refused; of a good one it is not asked
-abbrev pub refusalOfHeaded : Headed → Refusal
-refusalOfHeaded (Good h) = Area
-refusalOfHeaded (Refused r) = r
+abbrev pub refusal_of_headed : Headed → Refusal
+refusal_of_headed (Good h) = Area
+refusal_of_headed (Refused r) = r

@@ -2,7 +2,7 @@
 use Rattle.std.specs.Prelude.{ℕ, ◌-◌, Bool, cond, ◌&&◌, List, [], ◌∷◌, ◌==◌, nat_le}
 use Rattle.std.proofs.Math.Option.{Option, none, some}
 use Rattle.rules.specs.declared.Entry.{Entry}
-use Rattle.rules.specs.Entries.{Walk, entries, broken, liveCount, voidCount}
+use Rattle.rules.specs.Entries.{Walk, entries, broken, live_count, void_count}
 use Rattle.walk.specs.declared.wanted.Wanted.{Wanted}
 use Rattle.walk.specs.declared.wanted.Sought.{Sought}
 use Rattle.walk.specs.declared.wanted.Sought.TheVariants.{At, Nothing}
@@ -15,18 +15,18 @@ abbrev pub wants : ℕ → ℕ → Entry → Bool
 wants tag least e = e.tag_id == tag && nat_le least e.data_size
 
 -- occurrence n of such entries, counted from 0 in list order
-unfoldable pub wantedIn : ℕ → ℕ → ℕ → List Entry → Option Entry
-wantedIn tag least n [] = none
-wantedIn tag least n (e ∷ es) =
-    cond (wants tag least e) (cond (n == 0) (some e) (wantedIn tag least (n - 1) es)) (wantedIn tag least n es)
+unfoldable pub wanted_in : ℕ → ℕ → ℕ → List Entry → Option Entry
+wanted_in tag least n [] = none
+wanted_in tag least n (e ∷ es) =
+    cond (wants tag least e) (cond (n == 0) (some e) (wanted_in tag least (n - 1) es)) (wanted_in tag least n es)
 
 -- the entry that is wanted
-abbrev pub wantedOf : Wanted → List Entry → Option Entry
-wantedOf w es = wantedIn w.tag w.least w.n es
+abbrev pub wanted_of : Wanted → List Entry → Option Entry
+wanted_of w es = wanted_in w.tag w.least w.n es
 
 -- no entry has a tag of over three bytes
-abbrev pub nothingWanted : Wanted
-nothingWanted = record { tag = 0x1000000; least = 0; n = 0 }
+abbrev pub nothing_wanted : Wanted
+nothing_wanted = record { tag = 0x1000000; least = 0; n = 0 }
 
 -- as the code answers it
 abbrev pub sought : Option Entry → Sought
@@ -35,7 +35,7 @@ sought none = Nothing
 
 -- what a walk tells: the numbers of live and void entries and the wanted entry, or its broken place
 abbrev pub told : Wanted → Walk → Walked
-told w (entries es) = Counts (liveCount es) (voidCount es) (sought (wantedOf w es))
+told w (entries es) = Counts (live_count es) (void_count es) (sought (wanted_of w es))
 told w (broken at) = Broken at
 
 -- ---- the memory of a walk: before the first entry, and behind one entry more

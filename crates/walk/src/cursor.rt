@@ -1,9 +1,9 @@
 // The walk carries its place with it from entry to entry: a cursor, whose step answers the entry with the advanced cursor.
 ghost use Rattle.std.specs.Prelude.{◌≡◌, ◌+◌, ◌^◌, ◌<◌, ◌≤◌, length};
-ghost use Rattle.rules.specs.Header.{entryHeaderSize};
-ghost use Rattle.rules.specs.Entries.{entryAt, span as spanRule, firstEntry, walk_of};
-ghost use Rattle.rules.specs.Add.{entrySpan};
-ghost use Rattle.walk.specs.Cursor.{fitted, judged, stepAt};
+ghost use Rattle.rules.specs.Header.{entry_header_size};
+ghost use Rattle.rules.specs.Entries.{entry_at, span as span_rule, first_entry, walk_of};
+ghost use Rattle.rules.specs.Add.{entry_span};
+ghost use Rattle.walk.specs.Cursor.{fitted, judged, step_at};
 ghost use Rattle.walk.specs.Wanted.{told};
 
 use crate::header;
@@ -33,8 +33,8 @@ pub(crate) enum Walked {
 
 // The entry at a place. Its header's eight bytes are read as one number.
 pub fn entry_at(a: &[u8], at: usize) -> Entry
-    requires { at + entryHeaderSize ≤ length a.now }
-    ensures { result ≡ entryAt a.now at }
+    requires { at + entry_header_size ≤ length a.now }
+    ensures { result ≡ entry_at a.now at }
 {
     let w = wire::read8(a, at);
     Entry {
@@ -47,14 +47,14 @@ pub fn entry_at(a: &[u8], at: usize) -> Entry
 
 // The bytes that an entry takes. The sum is made in 64 bits, so that a huge data_size does not wrap.
 fn span(e: Entry) -> usize
-    ensures { result ≡ spanRule e }
+    ensures { result ≡ span_rule e }
 {
     (e.hdr_size as usize + e.data_size as usize + 7) / 8 * 8
 }
 
 // The bytes that an entry with a header of eight bytes takes.
 pub fn entry_span(data_size: u32) -> usize
-    ensures { result ≡ entrySpan data_size }
+    ensures { result ≡ entry_span data_size }
 {
     (data_size as usize + 15) / 8 * 8
 }
@@ -89,7 +89,7 @@ impl Cursor {
     // The entry at the cursor's place, and the cursor behind it. No entry is read at used_size itself.
     pub(crate) fn step(self, a: &[u8], version: u8, used: usize) -> Step
         requires { (self.at ≤ used) × (used ≤ length a.now) }
-        ensures { result ≡ stepAt version a.now used self.at }
+        ensures { result ≡ step_at version a.now used self.at }
     {
         let at = self.at;
         if at == used {
@@ -105,7 +105,7 @@ impl Cursor {
 
 // The one walk over the entries, which counts them and remembers the wanted one.
 pub(crate) fn walk(a: &[u8], h: Header, w: Wanted) -> Walked
-    requires { (firstEntry h ≤ h.used_size) × (h.used_size ≤ length a.now) }
+    requires { (first_entry h ≤ h.used_size) × (h.used_size ≤ length a.now) }
     ensures { result ≡ told w (walk_of h a.now) }
 {
     let used = h.used_size as usize;

@@ -1,7 +1,7 @@
 // Find, in both forms.
 ghost use Rattle.std.specs.Prelude.{◌≡◌, ◌+◌};
-ghost use Rattle.rules.specs.Find.{findOf, find as findRule, findDataOf, findData, partOffset};
-ghost use Rattle.walk.specs.Format.{editionOf};
+ghost use Rattle.rules.specs.Find.{find_of, find as find_rule, find_data_of, find_data, part_offset};
+ghost use Rattle.walk.specs.Format.{edition_of};
 
 use crate::check;
 use crate::check::Surveyed;
@@ -11,7 +11,7 @@ use rules::{Found, Refusal};
 
 // The offset and size of the data of occurrence n of a tag, in a list of an edition.
 pub fn find_of(format: Format, area: &[u8], base: u64, tag: u32, n: u64) -> Found
-    ensures { result ≡ findOf (editionOf format) area.now base tag n }
+    ensures { result ≡ find_of (edition_of format) area.now base tag n }
 {
     let surveyed = check::survey_of(format, false, area, base, Wanted { tag, least: 0, n });
     let Surveyed::Accepted(_, _, found) = surveyed else {
@@ -31,16 +31,16 @@ pub fn find_of(format: Format, area: &[u8], base: u64, tag: u32, n: u64) -> Foun
 
 // The same in a current list.
 pub fn find(area: &[u8], base: u64, tag: u32, n: u64) -> Found
-    ensures { result ≡ findRule area.now base tag n }
+    ensures { result ≡ find_rule area.now base tag n }
 {
     find_of(Format::Current, area, base, tag, n)
 }
 
 // The data itself, as a part of the caller's area; the empty part where find refuses.
 pub fn find_data_of(format: Format, area: &[u8], base: u64, tag: u32, n: u64) -> &[u8]
-    ensures result_value { result.now ≡ findDataOf (editionOf format) area.now base tag n }
+    ensures result_value { result.now ≡ find_data_of (edition_of format) area.now base tag n }
     ensures ref_ptr_value { result.ref_ptr.0 ≡ area.entry.ref_ptr.0 }
-    ensures ref_ptr_value_2 { result.ref_ptr.1 ≡ area.entry.ref_ptr.1 + partOffset (findOf (editionOf format) area.now base tag n) }
+    ensures ref_ptr_value_2 { result.ref_ptr.1 ≡ area.entry.ref_ptr.1 + part_offset (find_of (edition_of format) area.now base tag n) }
 {
     let Found::At { offset, size } = find_of(format, area, base, tag, n) else {
         return &area[0..0];
@@ -52,9 +52,9 @@ pub fn find_data_of(format: Format, area: &[u8], base: u64, tag: u32, n: u64) ->
 
 // The same in a current list.
 pub fn find_data(area: &[u8], base: u64, tag: u32, n: u64) -> &[u8]
-    ensures result_value { result.now ≡ findData area.now base tag n }
+    ensures result_value { result.now ≡ find_data area.now base tag n }
     ensures ref_ptr_value { result.ref_ptr.0 ≡ area.entry.ref_ptr.0 }
-    ensures ref_ptr_value_2 { result.ref_ptr.1 ≡ area.entry.ref_ptr.1 + partOffset (findRule area.now base tag n) }
+    ensures ref_ptr_value_2 { result.ref_ptr.1 ≡ area.entry.ref_ptr.1 + part_offset (find_rule area.now base tag n) }
 {
     find_data_of(Format::Current, area, base, tag, n)
 }

@@ -1,6 +1,6 @@
 // The two editions as the code tells them apart.
 ghost use Rattle.std.specs.Prelude.{◌≡◌};
-ghost use Rattle.walk.specs.Format.{editionOf};
+ghost use Rattle.walk.specs.Format.{edition_of};
 
 use rules::Header;
 
@@ -22,7 +22,7 @@ impl Format {
 
     // The edition's signature.
     pub fn signature(self) -> u32
-        ensures { result ≡ (editionOf self).signature }
+        ensures { result ≡ (edition_of self).signature }
     {
         match self {
             Format::Current => Header::SIGNATURE,
@@ -32,7 +32,7 @@ impl Format {
 
     // The size of the edition's header.
     pub fn header_size(self) -> u8
-        ensures { result ≡ (editionOf self).headerSize }
+        ensures { result ≡ (edition_of self).header_size }
     {
         match self {
             Format::Current => Header::SIZE,

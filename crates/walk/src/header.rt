@@ -1,13 +1,13 @@
 // The header's fields, and refusals 1 to 6, which need no more than the header.
 ghost use Rattle.std.specs.Prelude.{◌≡◌, ◌≤◌, length};
-ghost use Rattle.rules.specs.Area.{usable as usableRule};
-ghost use Rattle.rules.specs.Header.{headerOf};
-ghost use Rattle.rules.specs.Entries.{firstEntry};
-ghost use Rattle.rules.specs.Refusals.{refusesSizes, refusesReadonly};
-ghost use Rattle.rules.specs.Check.{fieldsRefusal};
+ghost use Rattle.rules.specs.Area.{usable as usable_rule};
+ghost use Rattle.rules.specs.Header.{header_of};
+ghost use Rattle.rules.specs.Entries.{first_entry};
+ghost use Rattle.rules.specs.Refusals.{refuses_sizes, refuses_readonly};
+ghost use Rattle.rules.specs.Check.{fields_refusal};
 ghost use Rattle.rules.specs.Edition09.{edition09};
-ghost use Rattle.walk.specs.Format.{editionOf};
-ghost use Rattle.walk.specs.Headed.{headed, headedOf, refusalOfHeaded};
+ghost use Rattle.walk.specs.Format.{edition_of};
+ghost use Rattle.walk.specs.Headed.{headed, headed_of, refusal_of_headed};
 
 use crate::format::Format;
 use rules::{Header, Refusal};
@@ -22,7 +22,7 @@ pub(crate) enum Headed {
 impl Headed {
     // Why the header was refused.
     pub(crate) fn refusal(self) -> Refusal
-        ensures { result ≡ refusalOfHeaded self }
+        ensures { result ≡ refusal_of_headed self }
     {
         match self {
             Headed::Good(_) => Refusal::Area,
@@ -34,8 +34,8 @@ impl Headed {
 // The header's fields, as the table has them. Edition 0.9's header ends before the flags: what is read there is not its own, and counts
 // 0 behind the area's end.
 pub(crate) fn read_header(a: &[u8]) -> Header
-    requires { edition09.headerSize ≤ length a.now }
-    ensures { result ≡ headerOf a.now }
+    requires { edition09.header_size ≤ length a.now }
+    ensures { result ≡ header_of a.now }
 {
     Header {
         signature: wire::read4(a, 0),
@@ -52,14 +52,14 @@ pub(crate) fn read_header(a: &[u8]) -> Header
 
 // The place of the first entry.
 pub(crate) fn first_entry(h: Header) -> usize
-    ensures { result ≡ firstEntry h }
+    ensures { result ≡ first_entry h }
 {
     (h.hdr_size as usize + 7) / 8 * 8
 }
 
 // An area is usable. Each sum is made only where it cannot wrap.
 pub fn usable(base: u64, len: usize) -> bool
-    ensures { result ≡ usableRule base len }
+    ensures { result ≡ usable_rule base len }
 {
     if rules::MAX_LENGTH < len {
         return false;
@@ -72,14 +72,14 @@ pub fn usable(base: u64, len: usize) -> bool
 
 // Refusal 5: only an edit or a conversion is refused for a version over 1.
 fn refuses_readonly(editing: bool, h: Header) -> bool
-    ensures { result ≡ refusesReadonly editing h }
+    ensures { result ≡ refuses_readonly editing h }
 {
     editing & (Header::VERSION < h.version)
 }
 
 // Refusal 6.
 fn refuses_sizes(format: Format, h: Header, len: usize) -> bool
-    ensures { result ≡ refusesSizes (editionOf format) h len }
+    ensures { result ≡ refuses_sizes (edition_of format) h len }
 {
     let own = format.header_size();
     let used = h.used_size as usize;
@@ -96,7 +96,7 @@ fn refuses_sizes(format: Format, h: Header, len: usize) -> bool
 
 // Refusals 3 to 6 in the order of their numbers, of a header in an area of len bytes.
 pub(crate) fn check_fields(format: Format, editing: bool, len: usize, h: Header) -> Headed
-    ensures { result ≡ headed h (fieldsRefusal (editionOf format) editing len h) }
+    ensures { result ≡ headed h (fields_refusal (edition_of format) editing len h) }
 {
     if h.signature != format.signature() {
         return Headed::Refused(Refusal::Signature);
@@ -115,7 +115,7 @@ pub(crate) fn check_fields(format: Format, editing: bool, len: usize, h: Header)
 
 // Refusals 1 to 6 in the order of their numbers, or the header.
 pub(crate) fn check_header(format: Format, editing: bool, area: &[u8], base: u64) -> Headed
-    ensures { result ≡ headedOf (editionOf format) editing area.now base }
+    ensures { result ≡ headed_of (edition_of format) editing area.now base }
 {
     let len = area.len();
     if !usable(base, len) {

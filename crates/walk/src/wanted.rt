@@ -1,6 +1,6 @@
 // The entry that a walk is to remember, and what it has remembered so far.
 ghost use Rattle.std.specs.Prelude.{◌≡◌};
-ghost use Rattle.walk.specs.Wanted.{wants as wantsRule, nothingWanted, forgetful, remembered};
+ghost use Rattle.walk.specs.Wanted.{wants as wants_rule, nothing_wanted, forgetful, remembered};
 
 use rules::Entry;
 
@@ -29,7 +29,7 @@ pub(crate) struct Memory {
 impl Wanted {
     // A want that no entry meets: its tag has four bytes, an entry's three.
     pub fn nothing() -> Wanted
-        ensures { result ≡ nothingWanted }
+        ensures { result ≡ nothing_wanted }
     {
         Wanted {
             tag: 0x1000000,
@@ -40,7 +40,7 @@ impl Wanted {
 
     // An entry is of the wanted kind.
     fn wants(self, e: Entry) -> bool
-        ensures { result ≡ wantsRule self.tag self.least e }
+        ensures { result ≡ wants_rule self.tag self.least e }
     {
         (e.tag_id == self.tag) & (self.least <= e.data_size as usize)
     }

@@ -5,7 +5,7 @@ use lib.Arith.{mod-mul}
 use lib.ListN.{get_or-append}
 use Rattle.wire.specs.Bytes.{field, le_bytes, splice}
 use Rattle.wire.proofs.Range.{Bytes}
-use Rattle.wire.proofs.Splice.{getD-splice-before, getD-splice-in, getD-splice-behind}
+use Rattle.wire.proofs.Splice.{get_or-splice_before, get_or-splice_in, get_or-splice-behind}
 
 -- ---- lists of bytes
 
@@ -40,46 +40,46 @@ bytes-replicate-zero (suc n) zero = omega arith
 bytes-replicate-zero (suc n) (suc i) = bytes-replicate-zero n i
 
 -- the bytes of a number are bytes
-pub bytes-leBytes : (k n : ℕ) → Bytes (le_bytes k n)
+pub bytes-le_bytes : (k n : ℕ) → Bytes (le_bytes k n)
 unfolding le_bytes
-bytes-leBytes zero n i = omega arith
-bytes-leBytes (suc k) n zero = omega arith
-bytes-leBytes (suc k) n (suc i) = bytes-leBytes k (n / 256) i
+bytes-le_bytes zero n i = omega arith
+bytes-le_bytes (suc k) n zero = omega arith
+bytes-le_bytes (suc k) n (suc i) = bytes-le_bytes k (n / 256) i
 
 -- ---- the bytes of a number
 
 -- a number has as many bytes as are asked for
-pub length-leBytes : (k n : ℕ) → length (le_bytes k n) ≡ k
+pub length-le_bytes : (k n : ℕ) → length (le_bytes k n) ≡ k
 unfolding le_bytes
-length-leBytes zero n = refl
-length-leBytes (suc k) n = ap suc (length-leBytes k (n / 256))
+length-le_bytes zero n = refl
+length-le_bytes (suc k) n = ap suc (length-le_bytes k (n / 256))
 
 -- the low j bytes, and behind them the k bytes of the rest
-pub leBytes-add : (j k n : ℕ) → le_bytes (j + k) n ≡ le_bytes j n ++ le_bytes k (n / 256 ^ j)
+pub le_bytes-add : (j k n : ℕ) → le_bytes (j + k) n ≡ le_bytes j n ++ le_bytes k (n / 256 ^ j)
 unfolding le_bytes
-leBytes-add zero k n = rw (zero-add, div-one)
-leBytes-add (suc j) k n = rw (suc-add, pow-succ', ← div-div-eq-div-mul, leBytes-add j k (n / 256))
+le_bytes-add zero k n = rw (zero-add, div-one)
+le_bytes-add (suc j) k n = rw (suc-add, pow-succ', ← div-div-eq-div-mul, le_bytes-add j k (n / 256))
 
 -- the low k bytes of a number are those of its remainder by 256 ^ k
-pub leBytes-mod : (k n : ℕ) → le_bytes k (n % 256 ^ k) ≡ le_bytes k n
+pub le_bytes-mod : (k n : ℕ) → le_bytes k (n % 256 ^ k) ≡ le_bytes k n
 unfolding le_bytes
-leBytes-mod zero n = refl
-leBytes-mod (suc k) n =
+le_bytes-mod zero n = refl
+le_bytes-mod (suc k) n =
     let e : n % 256 ^ suc k ≡ n / 256 % 256 ^ k * 256 + n % 256 = rw pow-suc (mod-mul n (one-le-pow k 256 (omega arith)) (omega arith)) in
     let m : n % 256 ^ suc k % 256 ≡ n % 256 = omega arith in
     let d : n % 256 ^ suc k / 256 ≡ n / 256 % 256 ^ k = omega arith in
-    rw (m, d, leBytes-mod k (n / 256))
+    rw (m, d, le_bytes-mod k (n / 256))
 
 -- ---- fields
 
 -- equal bytes give equal fields
-pub field-cong : (a b : List ℕ) (at bt k : ℕ) → ((i : ℕ) → i < k → get_or a (at + i) 0 ≡ get_or b (bt + i) 0) → field a at k ≡ field b bt k
+pub field_cong : (a b : List ℕ) (at bt k : ℕ) → ((i : ℕ) → i < k → get_or a (at + i) 0 ≡ get_or b (bt + i) 0) → field a at k ≡ field b bt k
 unfolding field
-field-cong a b at bt zero h = refl
-field-cong a b at bt (suc k) h =
+field_cong a b at bt zero h = refl
+field_cong a b at bt (suc k) h =
     let z : get_or a at 0 ≡ get_or b bt 0 = rw (add-zero at, add-zero bt) at (h 0 (omega arith)) in
     let s : field a (at + 1) k ≡ field b (bt + 1) k =
-    field-cong a b (at + 1) (bt + 1) k (λ i l. rw (add_assoc at 1 i, add_assoc bt 1 i, one_more i) (h (suc i) (omega arith))) in
+    field_cong a b (at + 1) (bt + 1) k (λ i l. rw (add_assoc at 1 i, add_assoc bt 1 i, one_more i) (h (suc i) (omega arith))) in
     rw (z, s)
   where
     one_more : (i : ℕ) → 1 + i ≡ suc i
@@ -87,25 +87,25 @@ field-cong a b at bt (suc k) h =
 
 -- a field of what follows the first n bytes
 pub field-drop : (n : ℕ) (a : List ℕ) (at k : ℕ) → field (drop n a) at k ≡ field a (n + at) k
-field-drop n a at k = field-cong (drop n a) a at (n + at) k (λ i h. rw (get_or-drop, add_assoc))
+field-drop n a at k = field_cong (drop n a) a at (n + at) k (λ i h. rw (get_or-drop, add_assoc))
 
 -- a field within the first n bytes
 pub field-take : (n : ℕ) (a : List ℕ) (at k : ℕ) → at + k ≤ n → field (take n a) at k ≡ field a at k
-field-take n a at k l = field-cong (take n a) a at at k (λ i h. get_or-take n a (at + i) 0 (omega arith))
+field-take n a at k l = field_cong (take n a) a at at k (λ i h. get_or-take n a (at + i) 0 (omega arith))
 
 -- a field in the first of two lists
 pub field-append : (p q : List ℕ) (at k : ℕ) → at + k ≤ length p → field (p ++ q) at k ≡ field p at k
-field-append p q at k l = field-cong (p ++ q) p at at k (λ i h. get_or-append p q 0 (at + i) (omega arith))
+field-append p q at k l = field_cong (p ++ q) p at at k (λ i h. get_or-append p q 0 (at + i) (omega arith))
 
 -- a field is its low j bytes and its high k bytes
-pub field-split : (a : List ℕ) (at j k : ℕ) → field a at (j + k) ≡ field a at j + 256 ^ j * field a (at + j) k
+pub field_split : (a : List ℕ) (at j k : ℕ) → field a at (j + k) ≡ field a at j + 256 ^ j * field a (at + j) k
 unfolding field
-field-split a at zero k = rw (zero-add k, add-zero at) (omega arith)
-field-split a at (suc j) k =
+field_split a at zero k = rw (zero-add k, add-zero at) (omega arith)
+field_split a at (suc j) k =
     let e : at + 1 + j ≡ at + suc j = omega arith in
     let f : ℕ = field a (at + suc j) k in
     let m : 256 ^ suc j * f ≡ 256 * (256 ^ j * f) = rw (pow-succ', mul_assoc) in
-    let ih : field a (at + 1) (j + k) ≡ field a (at + 1) j + 256 ^ j * f = rw e at (field-split a (at + 1) j k) in
+    let ih : field a (at + 1) (j + k) ≡ field a (at + 1) j + 256 ^ j * f = rw e at (field_split a (at + 1) j k) in
     rw (suc-add, ih) (omega arith)
 
 -- a field of k bytes is below 256 ^ k
@@ -115,33 +115,33 @@ field_lt a at zero h = omega arith
 field_lt a at (suc k) h = omega (arith, h at, field_lt a (at + 1) k h)
 
 -- the number whose bytes were written is read again
-pub field-leBytes : (k n : ℕ) → n < 256 ^ k → field (le_bytes k n) 0 k ≡ n
+pub field-le_bytes : (k n : ℕ) → n < 256 ^ k → field (le_bytes k n) 0 k ≡ n
 unfolding field le_bytes
-field-leBytes zero n h = omega arith
-field-leBytes (suc k) n h =
-    omega (arith, field-drop 1 (le_bytes (suc k) n) 0 k, field-leBytes k (n / 256) (omega arith))
+field-le_bytes zero n h = omega arith
+field-le_bytes (suc k) n h =
+    omega (arith, field-drop 1 (le_bytes (suc k) n) 0 k, field-le_bytes k (n / 256) (omega arith))
 
 -- the bytes of the number that was read are the bytes themselves
-pub leBytes-field : (a : List ℕ) (at k : ℕ) → Bytes a → at + k ≤ length a → le_bytes k (field a at k) ≡ take k (drop at a)
+pub le_bytes-field : (a : List ℕ) (at k : ℕ) → Bytes a → at + k ≤ length a → le_bytes k (field a at k) ≡ take k (drop at a)
 unfolding field le_bytes
-leBytes-field a at zero h l = refl
-leBytes-field a at (suc k) h l =
+le_bytes-field a at zero h l = refl
+le_bytes-field a at (suc k) h l =
     let b : get_or a at 0 < 256 = h at in
     let m : (get_or a at 0 + 256 * field a (at + 1) k) % 256 ≡ get_or a at 0 = omega arith in
     let d : (get_or a at 0 + 256 * field a (at + 1) k) / 256 ≡ field a (at + 1) k = omega arith in
-    rw (m, d, leBytes-field a (at + 1) k h (omega arith), drop-cons a at 0 (omega arith), add-one)
+    rw (m, d, le_bytes-field a (at + 1) k h (omega arith), drop-cons a at 0 (omega arith), add-one)
 
 -- a number spliced in is read there
-pub field-splice-same : (a : List ℕ) (at k n : ℕ) → at + k ≤ length a → n < 256 ^ k → field (splice a at (le_bytes k n)) at k ≡ n
-field-splice-same a at k n l h =
-    let e : length (le_bytes k n) ≡ k = length-leBytes k n in
-    field-cong (splice a at (le_bytes k n)) (le_bytes k n) at 0 k (λ i b. rw zero-add (getD-splice-in a at (le_bytes k n) (omega arith) i (omega arith)))
-    ∙ field-leBytes k n h
+pub field-splice_same : (a : List ℕ) (at k n : ℕ) → at + k ≤ length a → n < 256 ^ k → field (splice a at (le_bytes k n)) at k ≡ n
+field-splice_same a at k n l h =
+    let e : length (le_bytes k n) ≡ k = length-le_bytes k n in
+    field_cong (splice a at (le_bytes k n)) (le_bytes k n) at 0 k (λ i b. rw zero-add (get_or-splice_in a at (le_bytes k n) (omega arith) i (omega arith)))
+    ∙ field-le_bytes k n h
 
 -- a field wholly before or wholly behind the new bytes is as it was
 pub field-splice-other : (a : List ℕ) (at : ℕ) (new : List ℕ) (bt k : ℕ) → at ≤ length a → (bt + k ≤ at) ⊎ (at + length new ≤ bt)
     → field (splice a at new) bt k ≡ field a bt k
 field-splice-other a at new bt k l (inl h) =
-    field-cong (splice a at new) a bt bt k (λ i b. getD-splice-before a at new l (bt + i) (omega arith))
+    field_cong (splice a at new) a bt bt k (λ i b. get_or-splice_before a at new l (bt + i) (omega arith))
 field-splice-other a at new bt k l (inr h) =
-    field-cong (splice a at new) a bt bt k (λ i b. getD-splice-behind a at new l (bt + i) (omega arith))
+    field_cong (splice a at new) a bt bt k (λ i b. get_or-splice-behind a at new l (bt + i) (omega arith))

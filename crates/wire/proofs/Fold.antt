@@ -3,12 +3,12 @@ use Rattle.std.proofs.Common.{◌≡◌, ℕ, zero, suc, ◌+◌, ◌*◌, ◌/�
 use lib.Bits.{bit_xor, xor_zero_r, xor_comm, xor_mod, xor_shr}
 use Rattle.wire.specs.Bytes.{field, le_bytes, xor}
 use Rattle.wire.proofs.Range.{Bytes}
-use Rattle.wire.proofs.Field.{leBytes-add, leBytes-mod, leBytes-field}
+use Rattle.wire.proofs.Field.{le_bytes-add, le_bytes-mod, le_bytes-field}
 use Rattle.wire.proofs.Xor.{xor_assoc, xor-append}
 
 -- the inner two of four change places
-xor-middle : (a b c d : ℕ) → bit_xor (bit_xor a b) (bit_xor c d) ≡ bit_xor (bit_xor a c) (bit_xor b d)
-xor-middle a b c d =
+xor_middle : (a b c d : ℕ) → bit_xor (bit_xor a b) (bit_xor c d) ≡ bit_xor (bit_xor a c) (bit_xor b d)
+xor_middle a b c d =
     xor_assoc a b (bit_xor c d)
     ∙ ap (bit_xor a) (sym (xor_assoc b c d) ∙ ap (λ (x : ℕ). bit_xor x d) (xor_comm b c) ∙ xor_assoc c b d)
     ∙ sym (xor_assoc a c (bit_xor b d))
@@ -20,7 +20,7 @@ fold-xor zero a b = refl
 fold-xor (suc k) a b =
     let m : bit_xor a b % 256 ≡ bit_xor (a % 256) (b % 256) = xor_mod a b 8 in
     let d : bit_xor a b / 256 ≡ bit_xor (a / 256) (b / 256) = xor_shr a b 8 in
-    rw (m, d, fold-xor k (a / 256) (b / 256)) (xor-middle (a % 256) (b % 256) (xor (le_bytes k (a / 256))) (xor (le_bytes k (b / 256))))
+    rw (m, d, fold-xor k (a / 256) (b / 256)) (xor_middle (a % 256) (b % 256) (xor (le_bytes k (a / 256))) (xor (le_bytes k (b / 256))))
 
 -- the exclusive or of two numbers, under a name of its own, so that arithmetic can replace either
 unfoldable pub both : ℕ → ℕ → ℕ
@@ -31,14 +31,14 @@ unfolding both
 both_is a b = refl
 
 -- a word of twice k bytes folds as the exclusive or of its halves does
-pub fold-halves : (k n : ℕ) → xor (le_bytes (k + k) n) ≡ xor (le_bytes k (both (n % 256 ^ k) (n / 256 ^ k)))
+pub fold_halves : (k n : ℕ) → xor (le_bytes (k + k) n) ≡ xor (le_bytes k (both (n % 256 ^ k) (n / 256 ^ k)))
 unfolding both
-fold-halves k n = rw (leBytes-add, xor-append, fold-xor, leBytes-mod)
+fold_halves k n = rw (le_bytes-add, xor-append, fold-xor, le_bytes-mod)
 
 -- the fold of two bytes
-pub fold-two : (n : ℕ) → xor (le_bytes 2 n) ≡ both (n % 256) (n / 256 % 256)
+pub fold_two : (n : ℕ) → xor (le_bytes 2 n) ≡ both (n % 256) (n / 256 % 256)
 unfolding both xor le_bytes
-fold-two n = rw xor_zero_r
+fold_two n = rw xor_zero_r
 
 -- two stretches one behind the other
 pub xor-add : (a : List ℕ) (at m n : ℕ) → xor (take (m + n) (drop at a)) ≡ bit_xor (xor (take m (drop at a))) (xor (take n (drop (at + m) a)))
@@ -68,7 +68,7 @@ pub next_word : (k : ℕ) (a : List ℕ) (i at : ℕ) → Bytes a → at + k * i
     → words k a (i + 1) at ≡ bit_xor (words k a i at) (xor (le_bytes k (word k a i at)))
 next_word k a i at h l =
     let n : k * (i + 1) ≡ k * i + k = rw (mul-add, mul-one) in
-    rw (n, leBytes-field a (at + k * i) k h l, xor-add)
+    rw (n, le_bytes-field a (at + k * i) k h l, xor-add)
 
 -- the exclusive or of what stands at four places
 abbrev pub of_four : (ℕ → ℕ) → ℕ → ℕ → ℕ → ℕ → ℕ
@@ -82,11 +82,11 @@ next-words k a i p q r s h lp lq lr ls =
     let w : ℕ → ℕ = words k a i in
     let f : ℕ → ℕ = λ at. xor (le_bytes k (word k a i at)) in
     rw (next_word k a i p h lp, next_word k a i q h lq, next_word k a i r h lr, next_word k a i s h ls, fold-xor, fold-xor, fold-xor)
-    (ap (λ (x : ℕ). bit_xor (bit_xor (w p) (f p)) (bit_xor (bit_xor (w q) (f q)) x)) (xor-middle (w r) (f r) (w s) (f s))
-    ∙ ap (bit_xor (bit_xor (w p) (f p))) (xor-middle (w q) (f q) (bit_xor (w r) (w s)) (bit_xor (f r) (f s)))
-    ∙ xor-middle (w p) (f p) (bit_xor (w q) (bit_xor (w r) (w s))) (bit_xor (f q) (bit_xor (f r) (f s))))
+    (ap (λ (x : ℕ). bit_xor (bit_xor (w p) (f p)) (bit_xor (bit_xor (w q) (f q)) x)) (xor_middle (w r) (f r) (w s) (f s))
+    ∙ ap (bit_xor (bit_xor (w p) (f p))) (xor_middle (w q) (f q) (bit_xor (w r) (w s)) (bit_xor (f r) (f s)))
+    ∙ xor_middle (w p) (f p) (bit_xor (w q) (bit_xor (w r) (w s))) (bit_xor (f q) (bit_xor (f r) (f s))))
 
 -- four stretches of m bytes one behind the other
-pub four-stretches : (a : List ℕ) (at m : ℕ)
+pub four_stretches : (a : List ℕ) (at m : ℕ)
     → of_four (λ (p : ℕ). xor (take m (drop p a))) at (at + m) (at + m + m) (at + m + m + m) ≡ xor (take (m + (m + (m + m))) (drop at a))
-four-stretches a at m = rw (xor-add, xor-add, xor-add)
+four_stretches a at m = rw (xor-add, xor-add, xor-add)

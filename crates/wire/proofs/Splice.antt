@@ -24,9 +24,9 @@ unfolding splice
 splice-set a i v h = rw (add-one) (set_split a i v h)
 
 -- bytes stored one behind the other are a splice of them
-pub splice-sets : (a : List ℕ) (at : ℕ) (new : List ℕ) → at + length new ≤ length a → sets a at new ≡ splice a at new
+pub splice_sets : (a : List ℕ) (at : ℕ) (new : List ℕ) → at + length new ≤ length a → sets a at new ≡ splice a at new
 unfolding splice
-splice-sets a at new h = sets-eq new a at h ∙ append_assoc (take at a) new (drop (at + length new) a)
+splice_sets a at new h = sets-eq new a at h ∙ append_assoc (take at a) new (drop (at + length new) a)
 
 module _ (a : List ℕ) (at : ℕ) (new : List ℕ) (l : at ≤ length a) where
   -- what ends at the last new byte has at + length new bytes
@@ -34,9 +34,9 @@ module _ (a : List ℕ) (at : ℕ) (new : List ℕ) (l : at ≤ length a) where
   length_front = rw (length-append, length-take-le at a l)
 
   -- what stands up to the last new byte
-  pub take-splice-all : take (at + length new) (splice a at new) ≡ take at a ++ new
+  pub take-splice_all : take (at + length new) (splice a at new) ≡ take at a ++ new
   unfolding splice
-  take-splice-all = rw (← append_assoc) (take_at (take at a ++ new) (drop (at + length new) a) (at + length new) length_front)
+  take-splice_all = rw (← append_assoc) (take_at (take at a ++ new) (drop (at + length new) a) (at + length new) length_front)
 
   -- behind the new bytes a list is as it was
   pub drop-splice : (n : ℕ) → at + length new ≤ n → drop n (splice a at new) ≡ drop n a
@@ -57,22 +57,22 @@ module _ (a : List ℕ) (at : ℕ) (new : List ℕ) (l : at ≤ length a) where
       take-append-le n (take at a) (new ++ drop (at + length new) a) k ∙ take-take n at a h
 
   -- a byte before the new bytes
-  pub getD-splice-before : (i : ℕ) → i < at → get_or (splice a at new) i 0 ≡ get_or a i 0
-  getD-splice-before i h =
+  pub get_or-splice_before : (i : ℕ) → i < at → get_or (splice a at new) i 0 ≡ get_or a i 0
+  get_or-splice_before i h =
       sym (get_or-take at (splice a at new) i 0 h) ∙ ap (λ (x : List ℕ). get_or x i 0) (take-splice at (omega arith)) ∙ get_or-take at a i 0 h
 
   -- a new byte
-  pub getD-splice-in : (i : ℕ) → i < length new → get_or (splice a at new) (at + i) 0 ≡ get_or new i 0
+  pub get_or-splice_in : (i : ℕ) → i < length new → get_or (splice a at new) (at + i) 0 ≡ get_or new i 0
   unfolding splice
-  getD-splice-in i h =
+  get_or-splice_in i h =
       let q : List ℕ = drop (at + length new) a in
       ap (λ (n : ℕ). get_or (splice a at new) (n + i) 0) (sym (length-take-le at a l))
       ∙ get_or-append-add (take at a) (new ++ q) i 0
       ∙ get_or-append new q 0 i h
 
   -- a byte behind the new bytes
-  pub getD-splice-behind : (i : ℕ) → at + length new ≤ i → get_or (splice a at new) i 0 ≡ get_or a i 0
-  getD-splice-behind i h = head (splice a at new) ∙ ap (λ (x : List ℕ). get_or x 0 0) (drop-splice i h) ∙ sym (head a)
+  pub get_or-splice-behind : (i : ℕ) → at + length new ≤ i → get_or (splice a at new) i 0 ≡ get_or a i 0
+  get_or-splice-behind i h = head (splice a at new) ∙ ap (λ (x : List ℕ). get_or x 0 0) (drop-splice i h) ∙ sym (head a)
     where
       head : (x : List ℕ) → get_or x i 0 ≡ get_or (drop i x) 0 0
       head x = rw (get_or-drop, add-zero)
@@ -89,13 +89,13 @@ pub splice-append : (a : List ℕ) (at : ℕ) (p q : List ℕ) → at ≤ length
 unfolding splice
 splice-append a at p q h =
     let n : ℕ = at + length p in
-    ap (λ (x : List ℕ). x ++ (q ++ drop (n + length q) (splice a at p))) (take-splice-all a at p h)
+    ap (λ (x : List ℕ). x ++ (q ++ drop (n + length q) (splice a at p))) (take-splice_all a at p h)
     ∙ ap (λ (x : List ℕ). take at a ++ p ++ (q ++ x)) (drop-splice a at p h (n + length q) (omega arith))
     ∙ simp (append_assoc, length-append, add_assoc)
 
 -- a byte stored behind the new bytes continues them
-pub splice-snoc : (a : List ℕ) (at : ℕ) (p : List ℕ) (v i : ℕ) → length p ≡ i → at + i < length a → set (splice a at p) (at + i) v ≡ splice a at (p ++ (v ∷ []))
-splice-snoc a at p v i e h =
+pub splice_snoc : (a : List ℕ) (at : ℕ) (p : List ℕ) (v i : ℕ) → length p ≡ i → at + i < length a → set (splice a at p) (at + i) v ≡ splice a at (p ++ (v ∷ []))
+splice_snoc a at p v i e h =
     let l : length (splice a at p) ≡ length a = length-splice a at p (omega arith) in
     splice-set (splice a at p) (at + i) v (omega arith)
     ∙ ap (λ (n : ℕ). splice (splice a at p) (at + n) (v ∷ [])) (sym e)
@@ -109,17 +109,17 @@ take-splice-within a at new n h l =
     let e : k + (n - k) ≡ n = omega arith in
     subst (λ (m : ℕ). take m (splice a at new) ≡ splice (take m a) at new) e
     (take-add k (n - k) (splice a at new)
-    ∙ ap (λ (x : List ℕ). x ++ take (n - k) (drop k (splice a at new))) (take-splice-all a at new (omega arith))
+    ∙ ap (λ (x : List ℕ). x ++ take (n - k) (drop k (splice a at new))) (take-splice_all a at new (omega arith))
     ∙ ap (λ (x : List ℕ). take at a ++ new ++ take (n - k) x) (drop-splice a at new (omega arith) k (omega arith))
     ∙ append_assoc (take at a) new (take (n - k) (drop k a))
     ∙ ap (λ (x : List ℕ). take at a ++ (new ++ x)) (sym (drop-take k (n - k) a (omega arith)))
     ∙ ap (λ (x : List ℕ). x ++ (new ++ drop k (take (k + (n - k)) a))) (sym (take-take at (k + (n - k)) a (omega arith))))
 
 -- two splices that do not overlap, in either order
-pub splice-comm : (a : List ℕ) (at : ℕ) (p : List ℕ) (b : ℕ) (q : List ℕ) → at + length p ≤ b → b ≤ length a
+pub splice_comm : (a : List ℕ) (at : ℕ) (p : List ℕ) (b : ℕ) (q : List ℕ) → at + length p ≤ b → b ≤ length a
     → splice (splice a at p) b q ≡ splice (splice a b q) at p
 unfolding splice
-splice-comm a at p b q h l =
+splice_comm a at p b q h l =
     let k : ℕ = at + length p in
     let z : List ℕ = q ++ drop (b + length q) a in
     let t : length (take b a) ≡ b = length-take-le b a l in

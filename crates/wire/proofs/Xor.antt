@@ -7,19 +7,19 @@ use Rattle.wire.specs.Bytes.{xor, splice}
 use Rattle.wire.proofs.Range.{Bytes}
 use Rattle.wire.proofs.Splice.{in_three}
 
-differ-lt : (x y : ℕ) → x < 2 → y < 2 → differ x y < 2
-differ-lt zero y hx hy = hy
-differ-lt (suc x) zero hx hy = hx
-differ-lt (suc x) (suc y) hx hy = differ-lt x y (omega arith) (omega arith)
+differ_lt : (x y : ℕ) → x < 2 → y < 2 → differ x y < 2
+differ_lt zero y hx hy = hy
+differ_lt (suc x) zero hx hy = hx
+differ_lt (suc x) (suc y) hx hy = differ_lt x y (omega arith) (omega arith)
 
-differ-assoc : (x y z : ℕ) → x < 2 → y < 2 → z < 2 → differ (differ x y) z ≡ differ x (differ y z)
-differ-assoc zero y z hx hy hz = refl
-differ-assoc (suc zero) zero z hx hy hz = refl
-differ-assoc (suc zero) (suc zero) zero hx hy hz = refl
-differ-assoc (suc zero) (suc zero) (suc zero) hx hy hz = refl
-differ-assoc (suc zero) (suc zero) (suc (suc z)) hx hy hz = absurd (omega arith)
-differ-assoc (suc zero) (suc (suc y)) z hx hy hz = absurd (omega arith)
-differ-assoc (suc (suc x)) y z hx hy hz = absurd (omega arith)
+differ_assoc : (x y z : ℕ) → x < 2 → y < 2 → z < 2 → differ (differ x y) z ≡ differ x (differ y z)
+differ_assoc zero y z hx hy hz = refl
+differ_assoc (suc zero) zero z hx hy hz = refl
+differ_assoc (suc zero) (suc zero) zero hx hy hz = refl
+differ_assoc (suc zero) (suc zero) (suc zero) hx hy hz = refl
+differ_assoc (suc zero) (suc zero) (suc (suc z)) hx hy hz = absurd (omega arith)
+differ_assoc (suc zero) (suc (suc y)) z hx hy hz = absurd (omega arith)
+differ_assoc (suc (suc x)) y z hx hy hz = absurd (omega arith)
 
 digit_lt : (n : ℕ) → n % 2 < 2
 digit_lt n = omega arith
@@ -27,18 +27,18 @@ digit_lt n = omega arith
 half_of : (h d : ℕ) → d < 2 → (h * 2 + d) / 2 ≡ h
 half_of h d l = omega arith
 
-odd-of : (h d : ℕ) → d < 2 → (h * 2 + d) % 2 ≡ d
-odd-of h d l = omega arith
+odd_of : (h d : ℕ) → d < 2 → (h * 2 + d) % 2 ≡ d
+odd_of h d l = omega arith
 
 module _ (a b : ℕ) where
-  differ-digits-lt : differ (a % 2) (b % 2) < 2
-  differ-digits-lt = differ-lt (a % 2) (b % 2) (digit_lt a) (digit_lt b)
+  differ_digits_lt : differ (a % 2) (b % 2) < 2
+  differ_digits_lt = differ_lt (a % 2) (b % 2) (digit_lt a) (digit_lt b)
 
-  xor-half : bit_xor a b / 2 ≡ bit_xor (a / 2) (b / 2)
-  xor-half = ap (λ (x : ℕ). x / 2) (xor_step a b) ∙ half_of (bit_xor (a / 2) (b / 2)) _ differ-digits-lt
+  xor_half : bit_xor a b / 2 ≡ bit_xor (a / 2) (b / 2)
+  xor_half = ap (λ (x : ℕ). x / 2) (xor_step a b) ∙ half_of (bit_xor (a / 2) (b / 2)) _ differ_digits_lt
 
-  xor-odd : bit_xor a b % 2 ≡ differ (a % 2) (b % 2)
-  xor-odd = ap (λ (x : ℕ). x % 2) (xor_step a b) ∙ odd-of (bit_xor (a / 2) (b / 2)) _ differ-digits-lt
+  xor_odd : bit_xor a b % 2 ≡ differ (a % 2) (b % 2)
+  xor_odd = ap (λ (x : ℕ). x % 2) (xor_step a b) ∙ odd_of (bit_xor (a / 2) (b / 2)) _ differ_digits_lt
 
 -- exclusive or is associative: each binary digit is
 pub xor_assoc : (a b c : ℕ) → bit_xor (bit_xor a b) c ≡ bit_xor a (bit_xor b c)
@@ -46,9 +46,9 @@ xor_assoc a =
     bin_ind (λ (n : ℕ). (b c : ℕ) → bit_xor (bit_xor n b) c ≡ bit_xor n (bit_xor b c)) (λ b c. refl)
     (λ n ih b c.
     xor_step (bit_xor n b) c
-    ∙ ap₂ (λ (x y : ℕ). bit_xor x (c / 2) * 2 + differ y (c % 2)) (xor-half n b) (xor-odd n b)
-    ∙ ap₂ (λ (x y : ℕ). x * 2 + y) (ih (b / 2) (c / 2)) (differ-assoc (n % 2) (b % 2) (c % 2) (digit_lt n) (digit_lt b) (digit_lt c))
-    ∙ sym (xor_step n (bit_xor b c) ∙ ap₂ (λ (x y : ℕ). bit_xor (n / 2) x * 2 + differ (n % 2) y) (xor-half b c) (xor-odd b c))) a
+    ∙ ap₂ (λ (x y : ℕ). bit_xor x (c / 2) * 2 + differ y (c % 2)) (xor_half n b) (xor_odd n b)
+    ∙ ap₂ (λ (x y : ℕ). x * 2 + y) (ih (b / 2) (c / 2)) (differ_assoc (n % 2) (b % 2) (c % 2) (digit_lt n) (digit_lt b) (digit_lt c))
+    ∙ sym (xor_step n (bit_xor b c) ∙ ap₂ (λ (x y : ℕ). bit_xor (n / 2) x * 2 + differ (n % 2) y) (xor_half b c) (xor_odd b c))) a
 
 -- the exclusive or of two lists one behind the other is that of theirs
 pub xor-append : (s t : List ℕ) → xor (s ++ t) ≡ bit_xor (xor s) (xor t)
@@ -74,8 +74,8 @@ xor_lt [] h = omega arith
 xor_lt (b ∷ l) h = bits.xor_lt 8 b (xor l) (h 0) (xor_lt l (λ i. h (suc i)))
 
 -- o out and n in
-xor-swap : (p o n q : ℕ) → bit_xor p (bit_xor n q) ≡ bit_xor (bit_xor p (bit_xor o q)) (bit_xor o n)
-xor-swap p o n q =
+xor_swap : (p o n q : ℕ) → bit_xor p (bit_xor n q) ≡ bit_xor (bit_xor p (bit_xor o q)) (bit_xor o n)
+xor_swap p o n q =
     sym (xor_assoc p (bit_xor o q) (bit_xor o n)
     ∙ ap (bit_xor p)
     (ap (λ (x : ℕ). bit_xor x (bit_xor o n)) (xor_comm o q)
@@ -90,9 +90,9 @@ xor-splice a at new =
     let p : List ℕ = take at a in
     let o : List ℕ = take (length new) (drop at a) in
     let q : List ℕ = drop (at + length new) a in
-    xor-three p new q
-    ∙ xor-swap (xor p) (xor o) (xor new) (xor q)
-    ∙ ap (λ (x : ℕ). bit_xor x (bit_xor (xor o) (xor new))) (sym (xor-three p o q) ∙ ap xor (in_three a at (length new)))
+    xor_three p new q
+    ∙ xor_swap (xor p) (xor o) (xor new) (xor q)
+    ∙ ap (λ (x : ℕ). bit_xor x (bit_xor (xor o) (xor new))) (sym (xor_three p o q) ∙ ap xor (in_three a at (length new)))
   where
-    xor-three : (p o q : List ℕ) → xor (p ++ (o ++ q)) ≡ bit_xor (xor p) (bit_xor (xor o) (xor q))
-    xor-three p o q = rw (xor-append, xor-append)
+    xor_three : (p o q : List ℕ) → xor (p ++ (o ++ q)) ≡ bit_xor (xor p) (bit_xor (xor o) (xor q))
+    xor_three p o q = rw (xor-append, xor-append)

@@ -27,6 +27,6 @@ sum [] = 0
 sum (b ∷ bs) = b + sum bs
 
 -- every byte is 0
-unfoldable pub allZero : List ℕ → Bool
-allZero [] = true
-allZero (b ∷ bs) = b == 0 && allZero bs
+unfoldable pub all_zero : List ℕ → Bool
+all_zero [] = true
+all_zero (b ∷ bs) = b == 0 && all_zero bs

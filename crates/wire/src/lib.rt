@@ -1,6 +1,6 @@
 // Numbers, exclusive or, sums, zeros and copies on slices of bytes. Knows nothing of transfer lists.
 ghost use Rattle.std.specs.Prelude.{◌≡◌, ◌+◌, ◌*◌, ◌%◌, ◌^◌, ◌<◌, ◌≤◌, length, take, drop, replicate, slice_index};
-ghost use Rattle.wire.specs.Bytes.{field, le_bytes, xor, splice, sum, allZero};
+ghost use Rattle.wire.specs.Bytes.{field, le_bytes, xor, splice, sum, all_zero};
 
 // A byte as a wider number: the cast asks for no proof here.
 fn wide(x: u8) -> u32
@@ -220,7 +220,7 @@ pub fn sum_part(s: &[u8], at: usize, n: usize) -> u8
 // The eight words from at on are 0.
 fn is_zero_block(s: &[u8], at: usize) -> bool
     requires { at + 64 ≤ length s.now }
-    ensures { result ≡ allZero (take 64 (drop at s.now)) }
+    ensures { result ≡ all_zero (take 64 (drop at s.now)) }
 {
     let low = (read8(s, at) == 0)
         & (read8(s, at + 8) == 0)
@@ -235,7 +235,7 @@ fn is_zero_block(s: &[u8], at: usize) -> bool
 // The n blocks of eight words from at on are 0.
 fn is_zero_blocks(s: &[u8], at: usize, n: usize) -> bool
     requires { at + 64 * n ≤ length s.now }
-    ensures { result ≡ allZero (take (64 * n) (drop at s.now)) }
+    ensures { result ≡ all_zero (take (64 * n) (drop at s.now)) }
 {
     let mut i: usize = 0;
     while i < n {
@@ -250,7 +250,7 @@ fn is_zero_blocks(s: &[u8], at: usize, n: usize) -> bool
 // The n words from at on are 0, one by one.
 fn is_zero_words(s: &[u8], at: usize, n: usize) -> bool
     requires { at + 8 * n ≤ length s.now }
-    ensures { result ≡ allZero (take (8 * n) (drop at s.now)) }
+    ensures { result ≡ all_zero (take (8 * n) (drop at s.now)) }
 {
     let mut i: usize = 0;
     while i < n {
@@ -265,7 +265,7 @@ fn is_zero_words(s: &[u8], at: usize, n: usize) -> bool
 // The n bytes from at on are 0, one by one.
 fn is_zero_bytes(s: &[u8], at: usize, n: usize) -> bool
     requires { at + n ≤ length s.now }
-    ensures { result ≡ allZero (take n (drop at s.now)) }
+    ensures { result ≡ all_zero (take n (drop at s.now)) }
 {
     let mut i: usize = 0;
     while i < n {
@@ -280,7 +280,7 @@ fn is_zero_bytes(s: &[u8], at: usize, n: usize) -> bool
 // Fewer than eight bytes from at on are 0: from four on the first four and the last four, which may overlap, else one by one.
 fn is_zero_short(s: &[u8], at: usize, n: usize) -> bool
     requires { (n < 8) × (at + n ≤ length s.now) }
-    ensures { result ≡ allZero (take n (drop at s.now)) }
+    ensures { result ≡ all_zero (take n (drop at s.now)) }
 {
     if n < 4 {
         return is_zero_bytes(s, at, n);
@@ -294,7 +294,7 @@ fn is_zero_short(s: &[u8], at: usize, n: usize) -> bool
 // The n bytes from at on are 0: eight words at a time, then single words, and what is left where it is fewer than eight bytes.
 pub fn is_zero_part(s: &[u8], at: usize, n: usize) -> bool
     requires { at + n ≤ length s.now }
-    ensures { result ≡ allZero (take n (drop at s.now)) }
+    ensures { result ≡ all_zero (take n (drop at s.now)) }
 {
     if n < 8 {
         return is_zero_short(s, at, n);

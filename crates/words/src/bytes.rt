@@ -1,9 +1,9 @@
 // Each byte of the area that a plan makes, while the area is still the old one.
 ghost use Rattle.std.specs.Prelude.{◌≡◌, ◌≤◌, ◌<◌, ◌^◌, length, get_or};
 ghost use Rattle.wire.specs.Bytes.{le_bytes};
-ghost use Rattle.rules.specs.Header.{headerSize};
-ghost use Rattle.rules.specs.Entries.{entryHeader};
-ghost use Rattle.plan.specs.Plan.{voidHeader, voidSpan, stretchOf, fieldsAfter, after};
+ghost use Rattle.rules.specs.Header.{header_size};
+ghost use Rattle.rules.specs.Entries.{entry_header};
+ghost use Rattle.plan.specs.Plan.{void_header, void_span, stretch_of, fields_after, after};
 ghost use Rattle.words.specs.Words.{Writable};
 
 use plan::{Plan, sum};
@@ -29,7 +29,7 @@ pub fn byte_of(n: u32, k: usize) -> u8
 
 // Byte k of the header of an entry; 0 behind it.
 fn header_byte(tag: u32, size: u32, k: usize) -> u8
-    ensures { result ≡ get_or (entryHeader tag size) k 0 }
+    ensures { result ≡ get_or (entry_header tag size) k 0 }
 {
     if k < 3 {
         return byte_of(tag, k);
@@ -43,7 +43,7 @@ fn header_byte(tag: u32, size: u32, k: usize) -> u8
 // Byte k of the header of a void that takes n bytes, if there is one; 0 behind it, as in the void.
 fn void_byte(n: usize, k: usize) -> u8
     requires { n < 2 ^ 32 }
-    ensures { result ≡ get_or (voidHeader n) k 0 }
+    ensures { result ≡ get_or (void_header n) k 0 }
 {
     if n < 8 {
         return 0;
@@ -54,8 +54,8 @@ fn void_byte(n: usize, k: usize) -> u8
 
 // Byte k of the plan's stretch; 0 behind it.
 fn stretch_byte(p: Plan, data: &[u8], k: usize) -> u8
-    requires { (p.padding ≡ voidSpan p.padding) × (p.padding < 2 ^ 32) × (p.behind < 2 ^ 32) }
-    ensures { result ≡ get_or (stretchOf p «data».now) k 0 }
+    requires { (p.padding ≡ void_span p.padding) × (p.padding < 2 ^ 32) × (p.behind < 2 ^ 32) }
+    ensures { result ≡ get_or (stretch_of p «data».now) k 0 }
 {
     if k < p.padding {
         return void_byte(p.padding, k);
@@ -77,8 +77,8 @@ fn stretch_byte(p: Plan, data: &[u8], k: usize) -> u8
 
 // Byte i of the area with the plan's checksum byte, alignment and used_size.
 fn field_byte(p: Plan, area: &[u8], i: usize) -> u8
-    requires { (headerSize ≤ length area.now) × (i < length area.now) }
-    ensures { result ≡ get_or (fieldsAfter p area.now) i 0 }
+    requires { (header_size ≤ length area.now) × (i < length area.now) }
+    ensures { result ≡ get_or (fields_after p area.now) i 0 }
 {
     if i == 4 {
         return p.checksum;

@@ -1,8 +1,8 @@
 // The words that a plan changes: words 0 and 8 and those of its stretch are looked at, and no others.
 ghost use Rattle.std.specs.Prelude.{◌≡◌, ◌+◌, ◌-◌, ◌/◌, ◌%◌, ◌≤◌, length};
-ghost use Rattle.journal.specs.Journal.{alike, wordsFrom, changedWords};
+ghost use Rattle.journal.specs.Journal.{alike, words_from, changed_words};
 ghost use Rattle.plan.specs.Plan.{after};
-ghost use Rattle.words.specs.Words.{Writable, nextOffset, skipTo};
+ghost use Rattle.words.specs.Words.{Writable, next_offset, skip_to};
 
 use crate::bytes;
 use plan::Plan;
@@ -24,7 +24,7 @@ fn same_word(p: Plan, area: &[u8], data: &[u8], at: usize) -> bool
 
 // From the header's words on to the plan's stretch.
 fn skip(at: usize, stretch: usize) -> usize
-    ensures { result ≡ skipTo at stretch }
+    ensures { result ≡ skip_to at stretch }
 {
     if (16 <= at) & (at < stretch) {
         return stretch;
@@ -35,8 +35,8 @@ fn skip(at: usize, stretch: usize) -> usize
 // The offset of the first word from `from` on that changes, or the area's length where there is none.
 pub fn next_changed(p: Plan, area: &[u8], data: &[u8], from: usize) -> usize
     requires { Writable p (length area.now) (length «data».now) × (from ≤ length area.now) × (from % 8 ≡ 0) }
-    ensures { result ≡ nextOffset (length area.now)
-        (wordsFrom ((length area.now - from) / 8) from area.now (after p area.now «data».now)) }
+    ensures { result ≡ next_offset (length area.now)
+        (words_from ((length area.now - from) / 8) from area.now (after p area.now «data».now)) }
 {
     let len = area.len();
     let end = p.at + p.padding + 16 + data.len() + p.zeros;
@@ -56,7 +56,7 @@ pub fn next_changed(p: Plan, area: &[u8], data: &[u8], from: usize) -> usize
 // The number of words that change.
 pub fn changed_words(p: Plan, area: &[u8], data: &[u8]) -> usize
     requires { Writable p (length area.now) (length «data».now) }
-    ensures { result ≡ length (changedWords area.now (after p area.now «data».now)) }
+    ensures { result ≡ length (changed_words area.now (after p area.now «data».now)) }
 {
     let len = area.len();
     let mut n: usize = 0;

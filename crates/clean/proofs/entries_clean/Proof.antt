@@ -3,7 +3,7 @@
 use mathlib.Core.Path.{◌≡◌, sym, ap, ◌∙◌, subst}
 use Prim.Native.Nat.{ℕ, ◌+◌, ◌-◌, ◌≤◌}
 use native.Mathlib.Omega.{arith}
-use Rattle.wire.specs.Bytes.{allZero}
+use Rattle.wire.specs.Bytes.{all_zero}
 use Rattle.laws.proofs.Row.{place_of}
 use Rattle.clean.proofs.Laws.{Here, here, bounds, Left, left-first, left_le, left-last, left-fits, left-zero, left_not}
 use borrow.Author.Tests.{not-true, not-false}
@@ -90,7 +90,7 @@ loop-less-2 : tie.Need-loop-smaller-2 invariant-loop decreases-loop
 loop-less-2 c = let f = c.before in omega (arith, (fits f).1, f.before.entry-span.ensures)
 
 loop-again-2 : tie.Need-loop-preserved-2 invariant-loop decreases-loop
-unfolding allZero
+unfolding all_zero
 loop-again-2 c =
     let f = c.before in
     let none : (T f).before.loop.at + f.before.entry-span.result - f.leftover-from.result ≡ 0 = omega (arith, c.if1.false) in

@@ -1,7 +1,7 @@
 -- The two tests, of the entries' leftovers and of the bytes from used_size to total_size, are the rule's.
 use mathlib.Core.Path.{sym, ◌∙◌}
 use native.Mathlib.Omega.{arith}
-use Rattle.clean.proofs.Laws.{bounds, clean-split}
+use Rattle.clean.proofs.Laws.{bounds, clean_split}
 use borrow.Author.Tests.{not-true, not-false}
 use borrow.Author.Rules.{rules}
 use Rattle.clean.proofs.is_clean.Statement.{statement}
@@ -13,7 +13,7 @@ entries-clean-requires c κs = search rules
 returns : tie.Need-returns
 returns c =
     let z = sym c.before.entries-clean.ensures ∙ not-true _ c.if1.true in
-    sym (clean-split _ _ c.before.before.before.requires.header ∙ rw z)
+    sym (clean_split _ _ c.before.before.before.requires.header ∙ rw z)
 
 cast-used : tie.Need-overflow-cast-used
 cast-used c = search rules
@@ -31,7 +31,7 @@ returns-2 : tie.Need-returns-2
 returns-2 c =
     let t = c.before.before.before in
     let z = sym t.before.entries-clean.ensures ∙ not-false _ t.if1.false in
-    c.is-zero-part.ensures ∙ sym (clean-split _ _ t.before.before.before.requires.header ∙ rw z)
+    c.is-zero-part.ensures ∙ sym (clean_split _ _ t.before.before.before.requires.header ∙ rw z)
 
 pub is-clean-spec : {M : Type 1} → statement M
 is-clean-spec =

@@ -3,11 +3,11 @@ use mathlib.Core.Path.{◌≡◌, sym, ap, ◌∙◌}
 use Prim.Native.Nat.{ℕ, ◌+◌, ◌≤◌}
 use native.Mathlib.Omega.{arith}
 use lib.ListN.{length}
-use Rattle.rules.specs.Area.{maxLength, maxAlignment}
-use Rattle.rules.specs.Edition09.{edition09, growth, convertedBytes, convert as convertRule}
+use Rattle.rules.specs.Area.{max_length, max_alignment}
+use Rattle.rules.specs.Edition09.{edition09, growth, converted_bytes, convert as convert_rule}
 use Rattle.laws.proofs.Check.{AdmittedIn, used-most}
-use Rattle.walk.proofs.Survey.{accepted-in, refused-in, admitted-in}
-use Rattle.destination.proofs.Laws.{outcomeAt, HasRoom, placed-room}
+use Rattle.walk.proofs.Survey.{accepted_in, refused_in, admitted_in}
+use Rattle.destination.proofs.Laws.{outcome_at, HasRoom, placed-room}
 use Rattle.convert.proofs.Laws.{convert-placed}
 use borrow.Author.Rules.{rules}
 use Rattle.convert.proofs.convert.Statement.{statement}
@@ -29,11 +29,11 @@ refusal-requires : tie.Need-refusal-requires
 refusal-requires c κs = search rules
 
 returns : tie.Need-returns
-unfolding convertRule
+unfolding convert_rule
 returns c =
     let s = c.before.before.before in
     let k = c.before.enum_told.given.1 in
-    let r = refused-in edition09 _ _ _ _ _ (sym s.survey-of.ensures ∙ k) in
+    let r = refused_in edition09 _ _ _ _ _ (sym s.survey-of.ensures ∙ k) in
     (simp (c.refusal.ensures, k, r), simp r)
 
 cast-growth : tie.Need-overflow-cast-growth
@@ -49,10 +49,10 @@ abbrev S : tie.After-surveyed → tie.Start
 S c = c.before.before.before.before.before.before
 
 admitted : (c : tie.After-surveyed) → AdmittedIn edition09 (S c).args.area.now (S c).args.base c.surveyed.given.0.1.0
-admitted c = admitted-in edition09 _ _ _ _ _ _ (sym c.before.before.survey-of.ensures ∙ c.surveyed.given.1)
+admitted c = admitted_in edition09 _ _ _ _ _ _ (sym c.before.before.survey-of.ensures ∙ c.surveyed.given.1)
 
 -- the alignment and the used size are small
-small : (c : tie.After-surveyed) → let h = c.surveyed.given.0.1.0 in (h.alignment ≤ maxAlignment) × (h.used_size ≤ maxLength)
+small : (c : tie.After-surveyed) → let h = c.surveyed.given.0.1.0 in (h.alignment ≤ max_alignment) × (h.used_size ≤ max_length)
 small c =
     let m = admitted c in
     rw m.header (m.sound.header.sizes.most, omega (arith, used-most edition09 _ _ m.sound, m.sound.header.usable.short))
@@ -65,12 +65,12 @@ K c = c.before.before.before
 
 -- the outcome that the rules give is that of the place
 ruled : (c : tie.After-find-place) → let a = (S (K c)).args in
-    convertRule a.area.now a.base a.target.now a.target-base
-    ≡ outcomeAt (λ (by : ℕ). convertedBytes a.area.now by (length a.target.now)) c.find-place.result
+    convert_rule a.area.now a.base a.target.now a.target-base
+    ≡ outcome_at (λ (by : ℕ). converted_bytes a.area.now by (length a.target.now)) c.find-place.result
 ruled c =
     let k = K c in
-    let t = (accepted-in edition09 _ _ _ _ _ _ _ (sym k.before.before.survey-of.ensures ∙ k.surveyed.given.1)).checked in
-    convert-placed _ _ _ _ _ _ t (admitted k).header ∙ ap (outcomeAt _) (sym c.find-place.ensures)
+    let t = (accepted_in edition09 _ _ _ _ _ _ _ (sym k.before.before.survey-of.ensures ∙ k.surveyed.given.1)).checked in
+    convert-placed _ _ _ _ _ _ t (admitted k).header ∙ ap (outcome_at _) (sym c.find-place.ensures)
 
 enum-known-place : tie.Need-enum-known-place
 enum-known-place c = search rules
@@ -84,7 +84,7 @@ refusal-requires-2 c κs = search rules
 returns-2 : tie.Need-returns-2
 returns-2 c =
     let k = c.before.enum-told2.given.1 in
-    let e = ruled c.before.before.before ∙ ap (outcomeAt _) k in
+    let e = ruled c.before.before.before ∙ ap (outcome_at _) k in
     (rw (e, c.refusal2.ensures, k), rw e)
 
 -- the list fits there
@@ -109,7 +109,7 @@ same_length c = search rules
 returns-3 : tie.Need-returns-3
 returns-3 c =
     let p = c.before.before.before.before.before in
-    let e = ruled p.before.before ∙ ap (outcomeAt _) p.place.given.1 in
+    let e = ruled p.before.before ∙ ap (outcome_at _) p.place.given.1 in
     (rw e, rw e c.before.before.write-target.ensures)
 
 pub convert-spec : {M : Type 1} → statement M

@@ -1,6 +1,6 @@
 -- The header is create's but for the two fields that are set.
 use borrow.Author.Rules.{rules}
-use Rattle.rules.specs.Edition09.{grownHeader}
+use Rattle.rules.specs.Edition09.{grown_header}
 use Rattle.convert.proofs.grown_header.Statement.{statement}
 use Rattle.convert.proofs.grown_header.Tie as tie
 
@@ -20,7 +20,7 @@ add-new : tie.Need-overflow-add-new
 add-new c = search rules
 
 returns : tie.Need-returns
-unfolding grownHeader
+unfolding grown_header
 returns c = rw c.before.fresh.ensures
 
 pub grown-header-spec : {M : Type 1} → statement M

@@ -8,12 +8,12 @@ use lib.Bits.{bit_xor}
 use Rattle.wire.specs.Bytes.{splice}
 use Rattle.wire.proofs.Splice.{splice_all}
 use Rattle.rules.specs.declared.Header.{Header}
-use Rattle.rules.specs.Header.{headerBytes}
-use Rattle.rules.specs.Edition09.{edition09, grownHeader}
+use Rattle.rules.specs.Header.{header_bytes}
+use Rattle.rules.specs.Edition09.{edition09, grown_header}
 use Rattle.laws.proofs.Check.{used-least, used-most}
 use Rattle.laws.proofs.Lists.{length_part}
-use Rattle.laws.proofs.FreshList.{length-headerBytes}
-use Rattle.convert.proofs.Laws.{laid-ready, laid-zeroed, target-read}
+use Rattle.laws.proofs.FreshList.{length-header_bytes}
+use Rattle.convert.proofs.Laws.{laid_ready, laid_zeroed, target_read}
 use borrow.Author.Rules.{rules}
 use Rattle.convert.proofs.write_target.Statement.{statement}
 use Rattle.convert.proofs.write_target.Tie as tie
@@ -78,7 +78,7 @@ zero-leftovers-requires : tie.Need-zero-leftovers-requires
 zero-leftovers-requires c κs =
     let l = c.before.before.before in
     let s = S (W l) in
-    laid-ready _ _ s.pre.0.sound s.pre.0.version _ s.pre.0.header _ _ s.pre.2 s.pre.1 _ l.lay-out.ensures
+    laid_ready _ _ s.pre.0.sound s.pre.0.version _ s.pre.0.header _ _ s.pre.2 s.pre.1 _ l.lay-out.ensures
 
 abbrev L : tie.After-zero-leftovers → tie.After-lay-out
 L c = c.before.before.before.before
@@ -108,11 +108,11 @@ checksum c = bit_xor c.before.before.xor-part.result c.xor-part2.result
 
 -- the header's bytes
 written : (c : tie.After-write-header) → let a = (S c).args in
-    c.write-header.new.0 ≡ headerBytes (grownHeader a.h (length a.target.now - a.shift))
+    c.write-header.new.0 ≡ header_bytes (grown_header a.h (length a.target.now - a.shift))
 written c =
     c.write-header.ensures
-    ∙ ap (λ (h : Header). splice _ 0 (headerBytes h)) c.before.grown-header.ensures
-    ∙ splice_all _ _ (length-headerBytes _)
+    ∙ ap (λ (h : Header). splice _ 0 (header_bytes h)) c.before.grown-header.ensures
+    ∙ splice_all _ _ (length-header_bytes _)
 
 copy-part-requires : tie.Need-copy-part-requires
 copy-part-requires c κs =
@@ -134,9 +134,9 @@ returns c =
     let l = L z in
     let s = S (W l) in
     let m = s.pre in
-    let w = z.zero-leftovers.ensures ∙ laid-zeroed _ _ m.0.sound m.0.version _ m.0.header _ _ m.2 m.1 _ l.lay-out.ensures in
+    let w = z.zero-leftovers.ensures ∙ laid_zeroed _ _ m.0.sound m.0.version _ m.0.header _ _ m.2 m.1 _ l.lay-out.ensures in
     k.copy-part.ensures
-    ∙ target-read _ _ m.0.sound m.0.version _ m.0.header _ _ m.2 m.1 _ _ _ _ w (written (W l)) x.before.before.xor-part.ensures
+    ∙ target_read _ _ m.0.sound m.0.version _ m.0.header _ _ m.2 m.1 _ _ _ _ w (written (W l)) x.before.before.xor-part.ensures
     x.xor-part2.ensures
 
 pub write-target-spec : {M : Type 1} → statement M

@@ -9,12 +9,12 @@ use borrow.Author.Tests.{le-leb, lt-leb}
 use Rattle.wire.specs.Bytes.{splice, xor}
 use Rattle.rules.specs.declared.Header.{Header}
 use Rattle.rules.specs.Area.{down8}
-use Rattle.rules.specs.Header.{headerBytes}
+use Rattle.rules.specs.Header.{header_bytes}
 use Rattle.rules.specs.Outcome.{done}
-use Rattle.rules.specs.Create.{freshList, create as createRule}
-use Rattle.laws.proofs.Check.{usable-of}
-use Rattle.laws.proofs.FreshList.{length-headerBytes, unsealed}
-use Rattle.create.proofs.Laws.{filled, fresh-summed, fresh-unsummed}
+use Rattle.rules.specs.Create.{fresh_list, create as create_rule}
+use Rattle.laws.proofs.Check.{usable_of}
+use Rattle.laws.proofs.FreshList.{length-header_bytes, unsealed}
+use Rattle.create.proofs.Laws.{filled, fresh_summed, fresh_unsummed}
 use borrow.Author.Rules.{rules}
 use Rattle.create.proofs.create.Statement.{statement}
 use Rattle.create.proofs.create.Tie as tie
@@ -23,13 +23,13 @@ usable-requires : tie.Need-usable-requires
 usable-requires c κs = search rules
 
 returns : tie.Need-returns
-unfolding createRule
+unfolding create_rule
 returns c =
     let u = c.before.usable.ensures in
     (simp (← u, c.if1.true), simp (← u, c.if1.true))
 
 returns-2 : tie.Need-returns-2
-unfolding createRule
+unfolding create_rule
 returns-2 c =
     let u = c.before.before.usable.ensures in
     (simp (← u, c.before.if1.false, le-leb _ _ c.if2.true), simp (← u, c.before.if1.false, le-leb _ _ c.if2.true))
@@ -44,7 +44,7 @@ cast-total : tie.Need-overflow-cast-total
 cast-total c =
     let a = c.before.before.before.before.args in
     let u = ap not (sym c.before.before.usable.ensures) ∙ c.before.if1.false in
-    omega (arith, (usable-of a.base (length a.area.now) u).short)
+    omega (arith, (usable_of a.base (length a.area.now) u).short)
 
 fresh-requires : tie.Need-fresh-requires
 fresh-requires c κs = search rules
@@ -75,9 +75,9 @@ abbrev area : tie.Else2 → List ℕ
 area c = (S c).args.area.now
 
 -- there the rule writes the new list
-ruled : (c : tie.Else2) → createRule (area c) (S c).args.base (S c).args.has-checksum
-    ≡ done (down8 (length (area c))) (freshList (length (area c)) (S c).args.has-checksum)
-unfolding createRule
+ruled : (c : tie.Else2) → create_rule (area c) (S c).args.base (S c).args.has-checksum
+    ≡ done (down8 (length (area c))) (fresh_list (length (area c)) (S c).args.has-checksum)
+unfolding create_rule
 ruled c = simp (← c.before.before.usable.ensures, c.before.if1.false, lt-leb _ _ c.if2.false)
 
 abbrev past : tie.After-zero-part → tie.Else2
@@ -90,15 +90,15 @@ written c =
     let w = c.before.before.before.before in
     c.zero-part.ensures
     ∙ ap (λ (x : List ℕ). splice x 24 (replicate (length a - 24) 0))
-    (w.write-header.ensures ∙ ap (λ (h : Header). splice a 0 (headerBytes h)) w.before.fresh.ensures)
-    ∙ filled a _ (length-headerBytes _) (omega arith)
+    (w.write-header.ensures ∙ ap (λ (h : Header). splice a 0 (header_bytes h)) w.before.fresh.ensures)
+    ∙ filled a _ (length-header_bytes _) (omega arith)
 
 returns-3 : tie.Need-returns-3
 returns-3 c =
     let e = ruled (past c.before.before.before.before.before) in
     let w = written c.before.before.before.before.before in
     let x = c.xor-part.ensures ∙ ap (λ (l : List ℕ). xor (take 24 (drop 0 l))) w in
-    (rw e, rw e (ap₂ (λ (l : List ℕ) (v : ℕ). set l 4 v) w x ∙ fresh-summed _ _ c.before.before.if3.true))
+    (rw e, rw e (ap₂ (λ (l : List ℕ) (v : ℕ). set l 4 v) w x ∙ fresh_summed _ _ c.before.before.if3.true))
 
 same-length-2 : tie.Need-same-length-2
 same-length-2 c = search rules
@@ -107,7 +107,7 @@ returns-4 : tie.Need-returns-4
 returns-4 c =
     let z = c.before.before.before in
     let e = ruled (past z) in
-    (rw e, rw e (written z ∙ fresh-unsummed _ _ c.if3.false))
+    (rw e, rw e (written z ∙ fresh_unsummed _ _ c.if3.false))
 
 pub create-spec : {M : Type 1} → statement M
 create-spec =

@@ -4,9 +4,9 @@ use Prim.Native.Nat.{ℕ, ◌+◌, ◌^◌, ◌≤◌, ◌<◌}
 use native.Mathlib.Omega.{arith}
 use lib.Pow.{pow_pos, pow_mono}
 use borrow.Author.Tests.{lt-ltb, le-ltb}
-use Rattle.rules.specs.Area.{maxAddress, maxLength}
-use Rattle.laws.proofs.Passed.{target-reach}
-use Rattle.laws.proofs.NewBase.{newBase-least, newBase-near}
+use Rattle.rules.specs.Area.{max_address, max_length}
+use Rattle.laws.proofs.Passed.{target_reach}
+use Rattle.laws.proofs.NewBase.{new_base-least, new_base_near}
 use borrow.Author.Rules.{rules}
 use Rattle.destination.proofs.find_place.Statement.{statement}
 use Rattle.destination.proofs.find_place.Tie as tie
@@ -18,8 +18,8 @@ returns : tie.Need-returns
 returns c = simp (← c.before.refuses-target.ensures, c.if1.true)
 
 -- what the target keeps to
-reached : (c : tie.Else1) → let a = c.before.before.args in (a.target-base + a.len ≤ maxAddress) × (a.len ≤ maxLength)
-reached c = target-reach _ _ (sym c.before.refuses-target.ensures ∙ c.if1.false)
+reached : (c : tie.Else1) → let a = c.before.before.args in (a.target-base + a.len ≤ max_address) × (a.len ≤ max_length)
+reached c = target_reach _ _ (sym c.before.refuses-target.ensures ∙ c.if1.false)
 
 add-from : tie.Need-overflow-add-from
 add-from c = omega (arith, reached c)
@@ -39,7 +39,7 @@ bounds c =
     let from : ℕ = a.target-base + a.growth in
     let p : m ≤ 2 ^ 32 = pow_mono {j = 32} (omega (arith, (S c).requires.0)) in
     let e = c.new-base.ensures in
-    (omega (arith, newBase-least m a.base from (pow_pos a.alignment)), omega (arith, newBase-near m a.base from (pow_pos a.alignment)))
+    (omega (arith, new_base-least m a.base from (pow_pos a.alignment)), omega (arith, new_base_near m a.base from (pow_pos a.alignment)))
 
 sub-shift : tie.Need-overflow-sub-shift
 sub-shift c = (bounds c).0

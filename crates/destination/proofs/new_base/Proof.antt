@@ -4,7 +4,7 @@ use native.Mathlib.Omega.{arith}
 use native.Mathlib.Nat.{div-mul-le_self}
 use lib.Pow.{pow_pos, pow_mono}
 use borrow.Author.Tests.{lt-ltb, le-ltb}
-use Rattle.rules.specs.Relocate.{newBase}
+use Rattle.rules.specs.Relocate.{new_base}
 use Rattle.laws.proofs.Power.{shifted}
 use Rattle.destination.proofs.Laws.{block_near}
 use borrow.Author.Rules.{rules}
@@ -36,13 +36,13 @@ add-result c =
     rw (shifted a.alignment c.before.requires.0) (omega (arith, block_near (2 ^ a.alignment) a.base a.target (pow_pos a.alignment)))
 
 returns : tie.Need-returns
-unfolding newBase
+unfolding new_base
 returns c =
     let e = shifted c.before.args.alignment c.before.requires.0 in
     rw (e, lt-ltb _ _ (rw e at c.if1.true))
 
 returns-2 : tie.Need-returns-2
-unfolding newBase
+unfolding new_base
 returns-2 c =
     let e = shifted c.before.args.alignment c.before.requires.0 in
     rw (e, le-ltb _ _ (rw e at c.if1.false))

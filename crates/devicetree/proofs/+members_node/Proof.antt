@@ -9,7 +9,7 @@ use borrow.Fn.PlainCycle.{Measures, is, falls, and}
 use borrow.Author.Rules.{rules}
 use borrow.Author.Tests.{not-true, not-false}
 use Rattle.devicetree.specs.Structure.{Members}
-use Rattle.devicetree.proofs.Deciding.{refuted, holds, Same, same_refl, same-trans, same-decides}
+use Rattle.devicetree.proofs.Deciding.{refuted, holds, Same, same_refl, same_trans, same_decides}
 use Rattle.devicetree.proofs.TokenLaws.{stands-bounds}
 use Rattle.devicetree.proofs.PartLaws.{name-bounds, property-bounds}
 use Rattle.devicetree.proofs.NodeLaws.{
@@ -17,14 +17,14 @@ use Rattle.devicetree.proofs.NodeLaws.{
   node-none,
   node-unnamed,
   node-named,
-  members-none,
-  members-close,
-  members-other,
-  members-late,
-  members-no-node,
-  members-node,
-  members-no-property,
-  members-property,
+  members_none,
+  members_close,
+  members_other,
+  members_late,
+  members_no-node,
+  members_node,
+  members_no-property,
+  members_property,
 }
 use Rattle.devicetree.proofs.members.members.Reads as members
 use Rattle.devicetree.proofs.members.members.Kinds as members-kinds
@@ -84,7 +84,7 @@ enum_told t c = search rules
 
 returns : (t : ℕ) → members-lts.Need-returns (members-claims t) (members-at t) members.Post invariant-loop decreases-loop
 returns t c =
-    same-decides c.before.before.before.loop.invariant.2 (refuted (members-none c.before.before.next-token.ensures c.enum_told.given.1))
+    same_decides c.before.before.before.loop.invariant.2 (refuted (members_none c.before.before.next-token.ensures c.enum_told.given.1))
 
 returns-2 : (t : ℕ) → members-lts.Need-returns-2 (members-claims t) (members-at t) members.Post invariant-loop decreases-loop
 returns-2 t c =
@@ -92,7 +92,7 @@ returns-2 t c =
     let T = k.before.before.before.next-token.ensures in
     let q = k.before.kind.given.1 in
     let g = k.before.before.before.before.loop.invariant in
-    same-decides g.2 (members-close T q c.if1.true)
+    same_decides g.2 (members_close T q c.if1.true)
 
 node-requires : (t : ℕ) → members-lts.Need-node-requires (members-claims t) (members-at t) members.Post invariant-loop decreases-loop
 node-requires t c κs =
@@ -114,7 +114,7 @@ returns-3 t c =
     let T = k.before.before.before.next-token.ensures in
     let q = k.before.kind.given.1 in
     let g = k.before.before.before.before.loop.invariant in
-    same-decides g.2 (refuted (members-no-node T q c.before.before.before.if2.true c.before.before.node.ensures c.enum-told2.given.1))
+    same_decides g.2 (refuted (members_no-node T q c.before.before.before.if2.true c.before.before.node.ensures c.enum-told2.given.1))
 
 loop-less : (t : ℕ) → members-lts.Need-loop-smaller (members-claims t) (members-at t) members.Post invariant-loop decreases-loop
 loop-less t c =
@@ -133,8 +133,8 @@ loop-again t c =
     let g = k.before.before.before.before.loop.invariant in
     let b = stands-bounds T q in
     let d = node-bounds (holds c.before.before.before.node.ensures c.before.m.given.1) in
-    let step = members-node T q c.before.before.before.before.if2.true c.before.before.before.node.ensures c.before.m.given.1 in
-    (omega arith, omega arith, same-trans g.2 step)
+    let step = members_node T q c.before.before.before.before.if2.true c.before.before.before.node.ensures c.before.m.given.1 in
+    (omega arith, omega arith, same_trans g.2 step)
 
 returns-4 : (t : ℕ) → members-lts.Need-returns-4 (members-claims t) (members-at t) members.Post invariant-loop decreases-loop
 returns-4 t c =
@@ -142,7 +142,7 @@ returns-4 t c =
     let T = k.before.before.before.next-token.ensures in
     let q = k.before.kind.given.1 in
     let g = k.before.before.before.before.loop.invariant in
-    same-decides g.2 (refuted (members-other T q c.before.before.if1.false c.before.if2.false c.if3.true))
+    same_decides g.2 (refuted (members_other T q c.before.before.if1.false c.before.if2.false c.if3.true))
 
 returns-5 : (t : ℕ) → members-lts.Need-returns-5 (members-claims t) (members-at t) members.Post invariant-loop decreases-loop
 returns-5 t c =
@@ -150,7 +150,7 @@ returns-5 t c =
     let T = k.before.before.before.next-token.ensures in
     let q = k.before.kind.given.1 in
     let g = k.before.before.before.before.loop.invariant in
-    same-decides g.2 (refuted (members-late T q c.before.if3.false (not-true _ c.if4.true)))
+    same_decides g.2 (refuted (members_late T q c.before.if3.false (not-true _ c.if4.true)))
 
 property-requires : (t : ℕ) → members-lts.Need-property-requires (members-claims t) (members-at t) members.Post invariant-loop decreases-loop
 property-requires t c κs =
@@ -172,8 +172,8 @@ returns-6 t c =
     let T = k.before.before.before.next-token.ensures in
     let q = k.before.kind.given.1 in
     let g = k.before.before.before.before.loop.invariant in
-    let none = members-no-property T q c.before.before.before.before.if3.false c.before.before.property.ensures c.enum-told3.given.1 in
-    same-decides g.2 (refuted none)
+    let none = members_no-property T q c.before.before.before.before.if3.false c.before.before.property.ensures c.enum-told3.given.1 in
+    same_decides g.2 (refuted none)
 
 loop-less-2 : (t : ℕ) → members-lts.Need-loop-smaller-2 (members-claims t) (members-at t) members.Post invariant-loop decreases-loop
 loop-less-2 t c =
@@ -192,9 +192,9 @@ loop-again-2 t c =
     let g = k.before.before.before.before.loop.invariant in
     let b = stands-bounds T q in
     let d = property-bounds (holds c.before.before.before.property.ensures c.before.m2.given.1) in
-    let property = members-property T q c.before.before.before.before.before.if3.false c.before.before.before.property.ensures in
+    let property = members_property T q c.before.before.before.before.before.if3.false c.before.before.before.property.ensures in
     let step = property (not-false _ c.before.before.before.before.if4.false) c.before.m2.given.1 in
-    (omega arith, omega arith, same-trans g.2 step)
+    (omega arith, omega arith, same_trans g.2 step)
 
 -- ---- a node
 
@@ -223,7 +223,7 @@ of-node-members-requires t c κs =
 
 of-node-returns-3 : (t : ℕ) → node-lts.Need-returns-3 (node-claims t) (node_at t) node.Post
 of-node-returns-3 t c =
-    same-decides (node-named c.before.before.before.before.name.ensures (omega arith) c.before.before.a.given.1)
+    same_decides (node-named c.before.before.before.before.name.ensures (omega arith) c.before.before.a.given.1)
     c.members.ensures
 
 pub +members-node-spec : {M : Type 1} → statement M

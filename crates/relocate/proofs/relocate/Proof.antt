@@ -3,13 +3,13 @@ use mathlib.Core.Path.{◌≡◌, sym, ap, ◌∙◌}
 use Prim.Native.Nat.{ℕ, ◌≤◌}
 use native.Mathlib.Omega.{arith}
 use lib.ListN.{length}
-use Rattle.rules.specs.Area.{maxLength, maxAlignment}
+use Rattle.rules.specs.Area.{max_length, max_alignment}
 use Rattle.rules.specs.Edition.{current}
-use Rattle.rules.specs.Relocate.{targetBytes}
-use Rattle.rules.specs.Edit.{run, toRelocate}
+use Rattle.rules.specs.Relocate.{target_bytes}
+use Rattle.rules.specs.Edit.{run, to_relocate}
 use Rattle.laws.proofs.Check.{Admitted, used-most}
 use Rattle.clean.proofs.Admission as admission
-use Rattle.destination.proofs.Laws.{outcomeAt, HasRoom, placed-room}
+use Rattle.destination.proofs.Laws.{outcome_at, HasRoom, placed-room}
 use Rattle.relocate.proofs.Laws.{relocate-placed}
 use borrow.Author.Rules.{rules}
 use Rattle.relocate.proofs.relocate.Statement.{statement}
@@ -47,7 +47,7 @@ admitted : (c : tie.After-surveyed) → Admitted (S c).args.area.now (S c).args.
 admitted c = admission.admitted _ _ _ _ _ _ (sym c.before.before.admit.ensures ∙ c.surveyed.given.1)
 
 -- the alignment and the used size are small
-small : (c : tie.After-surveyed) → let h = c.surveyed.given.0.1.0 in (h.alignment ≤ maxAlignment) × (h.used_size ≤ maxLength)
+small : (c : tie.After-surveyed) → let h = c.surveyed.given.0.1.0 in (h.alignment ≤ max_alignment) × (h.used_size ≤ max_length)
 small c =
     let m = admitted c in
     rw m.header (m.sound.header.sizes.most, omega (arith, used-most current _ _ m.sound, m.sound.header.usable.short))
@@ -60,12 +60,12 @@ K c = c.before.before.before
 
 -- the outcome that the rules give is that of the place
 ruled : (c : tie.After-find-place) → let a = (S (K c)).args in
-    run (toRelocate a.target.now a.target-base) a.area.now a.base
-    ≡ outcomeAt (λ (by : ℕ). targetBytes a.area.now by (length a.target.now)) c.find-place.result
+    run (to_relocate a.target.now a.target-base) a.area.now a.base
+    ≡ outcome_at (λ (by : ℕ). target_bytes a.area.now by (length a.target.now)) c.find-place.result
 ruled c =
     let k = K c in
     let t = (admission.accepted _ _ _ _ _ _ (sym k.before.before.admit.ensures ∙ k.surveyed.given.1)).checked in
-    simp t (relocate-placed _ _ _ _ _ (admitted k).header) ∙ ap (outcomeAt _) (sym c.find-place.ensures)
+    simp t (relocate-placed _ _ _ _ _ (admitted k).header) ∙ ap (outcome_at _) (sym c.find-place.ensures)
 
 enum-known-place : tie.Need-enum-known-place
 enum-known-place c = search rules
@@ -79,7 +79,7 @@ refusal-requires-2 c κs = search rules
 returns-2 : tie.Need-returns-2
 returns-2 c =
     let k = c.before.enum-told2.given.1 in
-    let e = ruled c.before.before.before ∙ ap (outcomeAt _) k in
+    let e = ruled c.before.before.before ∙ ap (outcome_at _) k in
     (rw (e, c.refusal2.ensures, k), rw e)
 
 -- the list fits there
@@ -104,7 +104,7 @@ same_length c = search rules
 returns-3 : tie.Need-returns-3
 returns-3 c =
     let p = c.before.before.before.before.before in
-    let e = ruled p.before.before ∙ ap (outcomeAt _) p.place.given.1 in
+    let e = ruled p.before.before ∙ ap (outcome_at _) p.place.given.1 in
     (rw e, rw e c.before.before.write-target.ensures)
 
 pub relocate-spec : {M : Type 1} → statement M

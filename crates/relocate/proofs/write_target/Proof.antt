@@ -10,7 +10,7 @@ use Rattle.wire.proofs.Range.{Bytes}
 use Rattle.rules.specs.Area.{down8}
 use Rattle.rules.specs.Edition.{current}
 use Rattle.laws.proofs.Check.{used-least, used-most}
-use Rattle.relocate.proofs.Laws.{target-read}
+use Rattle.relocate.proofs.Laws.{target_read}
 use borrow.Author.Rules.{rules}
 use Rattle.relocate.proofs.write_target.Statement.{statement}
 use Rattle.relocate.proofs.write_target.Tie as tie
@@ -73,7 +73,7 @@ returns c =
     ∙ ap₂ (λ (x : List ℕ) (v : ℕ). splice (set x (a.shift + 4) v) (a.shift + 12) (le_bytes 4 total))
     l.lay-out.ensures
     w.before.before.total-patch.ensures
-    ∙ target-read a.area.now a.base m.sound b a.h a.target.now a.shift m.header (S l).requires.1
+    ∙ target_read a.area.now a.base m.sound b a.h a.target.now a.shift m.header (S l).requires.1
 
 pub write-target-spec : {M : Type 1} → statement M
 write-target-spec =

@@ -4,7 +4,7 @@ use Rattle.rules.specs.Checksum.{seal}
 use Rattle.rules.specs.Leftovers.{leftovers, zeroed}
 use Rattle.rules.specs.Outcome.{done}
 use Rattle.rules.specs.Scrub.{scrub}
-use Rattle.rules.specs.Edit.{run, toScrub}
+use Rattle.rules.specs.Edit.{run, to_scrub}
 use Rattle.walk.proofs.Survey as survey
 use borrow.Author.Rules.{rules}
 use Rattle.scrub.proofs.scrub.Statement.{statement}
@@ -45,7 +45,7 @@ same-length-2 c = search rules
 
 -- the outcome that the rules give, with the used size that was read
 ruled : (c : tie.After-surveyed) → let a = c.before.before.before.before.before.before.args in
-    run toScrub a.area.now a.base ≡ done c.surveyed.given.0.1.0.used_size (seal (zeroed (leftovers a.area.now) a.area.now))
+    run to_scrub a.area.now a.base ≡ done c.surveyed.given.0.1.0.used_size (seal (zeroed (leftovers a.area.now) a.area.now))
 unfolding scrub
 ruled c =
     let t = survey.accepted _ _ _ _ _ _ _ (sym c.before.before.survey.ensures ∙ c.surveyed.given.1) in

@@ -4,7 +4,7 @@ use Prim.Native.Nat.{ℕ}
 use native.Mathlib.Omega.{arith}
 use mathlib.Core.List.{List}
 use lib.ListN.{set, length-set}
-use Rattle.rules.specs.Checksum.{freshChecksum, seal}
+use Rattle.rules.specs.Checksum.{fresh_checksum, seal}
 use Rattle.rules.specs.Leftovers.{leftovers, zeroed}
 use Rattle.clean.proofs.Laws.{bounds}
 use Rattle.scrub.proofs.Laws as laws
@@ -61,7 +61,7 @@ returns : tie.Need-returns
 unfolding seal
 returns c =
     let w = c.before.before.before.before in
-    ap₂ (λ (l : List ℕ) (v : ℕ). set l 4 v) (written w) (c.fresh-checksum.ensures ∙ ap freshChecksum (written w))
+    ap₂ (λ (l : List ℕ) (v : ℕ). set l 4 v) (written w) (c.fresh-checksum.ensures ∙ ap fresh_checksum (written w))
 
 pub write-scrubbed-spec : {M : Type 1} → statement M
 write-scrubbed-spec =

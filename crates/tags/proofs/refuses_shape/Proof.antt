@@ -2,8 +2,8 @@
 use Prim.Native.Nat.{◌-◌}
 use native.Mathlib.Omega.{arith}
 use borrow.Author.Rules.{rules}
-use Rattle.rules.specs.Tags.{tagTable}
-use Rattle.tags.proofs.Laws.{rowCount, Searched, begun, hit, missed, ended}
+use Rattle.rules.specs.Tags.{tag_table}
+use Rattle.tags.proofs.Laws.{row_count, Searched, begun, hit, missed, ended}
 use Rattle.tags.proofs.refuses_shape.Statement.{statement}
 use Rattle.tags.proofs.refuses_shape.Tie as tie
 
@@ -11,10 +11,10 @@ abbrev invariant-loop : tie.invariant-loop
 invariant-loop tag n table i₀ i = Searched table tag n i
 
 abbrev decreases-loop : tie.decreases-loop
-decreases-loop tag n table i₀ i = rowCount - i
+decreases-loop tag n table i₀ i = row_count - i
 
 loop-holds : tie.Need-loop-init invariant-loop decreases-loop
-unfolding tagTable
+unfolding tag_table
 loop-holds c = begun _ _ _ (omega arith) (omega arith)
 
 mul-row : tie.Need-overflow-mul-row invariant-loop decreases-loop

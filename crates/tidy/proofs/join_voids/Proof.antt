@@ -6,9 +6,9 @@ use native.Mathlib.Omega.{arith}
 use Rattle.wire.specs.Bytes.{splice}
 use Rattle.rules.specs.declared.Entry.{Entry}
 use Rattle.rules.specs.Edition.{current}
-use Rattle.rules.specs.Entries.{entryAt}
-use Rattle.rules.specs.Add.{entrySpan}
-use Rattle.plan.specs.Plan.{wholeVoid}
+use Rattle.rules.specs.Entries.{entry_at}
+use Rattle.rules.specs.Add.{entry_span}
+use Rattle.plan.specs.Plan.{whole_void}
 use Rattle.laws.proofs.Check.{used-least}
 use borrow.Author.Rules.{rules}
 use Rattle.tidy.proofs.Laws.{Left, left-first, left-last, left-fits, left-void, left-live}
@@ -35,12 +35,12 @@ loop-holds c =
 
 -- the entry at the walk's place takes so many bytes
 spanned : (c : tie.After-entry-span invariant-loop decreases-loop) → let l = c.before.before.before.before.loop in
-    c.entry-span.result ≡ entrySpan (entryAt l.a l.at).data_size
-spanned c = c.entry-span.ensures ∙ ap (λ (e : Entry). entrySpan e.data_size) c.before.entry_at.ensures
+    c.entry-span.result ≡ entry_span (entry_at l.a l.at).data_size
+spanned c = c.entry-span.ensures ∙ ap (λ (e : Entry). entry_span e.data_size) c.before.entry_at.ensures
 
 -- and its tag is the one that was read
 tagged : (c : tie.After-entry-span invariant-loop decreases-loop) → let l = c.before.before.before.before.loop in
-    c.before.entry_at.result.tag_id ≡ (entryAt l.a l.at).tag_id
+    c.before.entry_at.result.tag_id ≡ (entry_at l.a l.at).tag_id
 tagged c = ap (λ (e : Entry). e.tag_id) c.before.entry_at.ensures
 
 -- which lie before the end of the list
@@ -81,8 +81,8 @@ loop-again c =
     let l = t.before.loop in
     let solid = c.before.before.before.before.if1.true in
     let live = left-live _ _ _ _ _ t.loop-test.true l.invariant.1 (λ e. omega (arith, solid, tagged f)) in
-    let w : c.before.before.write-void.new.0 ≡ splice l.a l.end (wholeVoid (l.at - l.end)) =
-    c.before.before.write-void.ensures ∙ ap (λ (n : ℕ). splice l.a l.end (wholeVoid n)) (omega arith) in
+    let w : c.before.before.write-void.new.0 ≡ splice l.a l.end (whole_void (l.at - l.end)) =
+    c.before.before.write-void.ensures ∙ ap (λ (n : ℕ). splice l.a l.end (whole_void n)) (omega arith) in
     (fits f, rw (spanned f, w) live)
 
 loop-less-2 : tie.Need-loop-smaller-2 invariant-loop decreases-loop

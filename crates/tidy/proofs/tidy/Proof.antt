@@ -2,8 +2,8 @@
 use mathlib.Core.Path.{◌≡◌, sym, ◌∙◌}
 use Rattle.rules.specs.Checksum.{seal}
 use Rattle.rules.specs.Outcome.{done}
-use Rattle.rules.specs.Tidy.{tidyUsed, tidyBytes, tidy}
-use Rattle.rules.specs.Edit.{run, toTidy}
+use Rattle.rules.specs.Tidy.{tidy_used, tidy_bytes, tidy}
+use Rattle.rules.specs.Edit.{run, to_tidy}
 use Rattle.clean.proofs.Admission as admission
 use borrow.Author.Rules.{rules}
 use Rattle.tidy.proofs.tidy.Statement.{statement}
@@ -44,7 +44,7 @@ same-length-2 c = search rules
 
 -- the outcome that the rules give
 ruled : (c : tie.After-surveyed) → let a = c.before.before.before.before.before.before.args in
-    run toTidy a.area.now a.base ≡ done (tidyUsed a.area.now) (seal (tidyBytes a.area.now))
+    run to_tidy a.area.now a.base ≡ done (tidy_used a.area.now) (seal (tidy_bytes a.area.now))
 unfolding tidy
 ruled c =
     let t = (admission.accepted _ _ _ _ _ _ (sym c.before.before.admit.ensures ∙ c.surveyed.given.1)).checked in

@@ -5,8 +5,8 @@ use native.Mathlib.Omega.{arith}
 use mathlib.Core.List.{List}
 use lib.ListN.{length, set, length-set}
 use Rattle.wire.specs.Bytes.{le_bytes, splice}
-use Rattle.rules.specs.Checksum.{freshChecksum, seal}
-use Rattle.rules.specs.Tidy.{tidyBytes}
+use Rattle.rules.specs.Checksum.{fresh_checksum, seal}
+use Rattle.rules.specs.Tidy.{tidy_bytes}
 use Rattle.tidy.proofs.Laws as laws
 use borrow.Author.Rules.{rules}
 use Rattle.tidy.proofs.write_tidy.Statement.{statement}
@@ -41,7 +41,7 @@ abbrev J : tie.After-write4 → tie.After-join-voids
 J c = c.before.before.before.before.before.before.before.before.before
 
 -- what is written before the checksum is the rule's list
-written : (c : tie.After-write4) → c.write4.new.0 ≡ tidyBytes (S (J c)).args.a.now
+written : (c : tie.After-write4) → c.write4.new.0 ≡ tidy_bytes (S (J c)).args.a.now
 written c =
     let j = J c in
     c.write4.ensures
@@ -63,7 +63,7 @@ returns : tie.Need-returns
 unfolding seal
 returns c =
     let w = c.before.before.before.before in
-    let x = c.fresh-checksum.ensures ∙ ap freshChecksum (written w) in
+    let x = c.fresh-checksum.ensures ∙ ap fresh_checksum (written w) in
     ((J w).join-voids.ensures.0, ap₂ (λ (l : List ℕ) (v : ℕ). set l 4 v) (written w) x)
 
 pub write-tidy-spec : {M : Type 1} → statement M

@@ -1,7 +1,7 @@
 -- The answer in numbers of what `add_aligned` answers, and the bytes that it leaves; demand 3 follows from the two.
 use mathlib.Core.Path.{ap, ◌∙◌}
-use Rattle.rules.specs.Outcome.{doneAnswer}
-use Rattle.rules.specs.Edit.{toAddAligned}
+use Rattle.rules.specs.Outcome.{done_answer}
+use Rattle.rules.specs.Edit.{to_add_aligned}
 use Rattle.demand3.proofs.Answered.{promised}
 use borrow.Author.Rules.{rules}
 use Rattle.transfer_list.proofs.tl_add_aligned.Statement.{statement}
@@ -18,8 +18,8 @@ same_length c = search rules
 
 returns : tie.Need-returns
 returns c =
-    let p = c.numbers.ensures ∙ ap doneAnswer c.before.before.before.add-aligned.ensures.0 in
-    promised (toAddAligned _ _ _) _ _ _ _ p c.before.before.before.add-aligned.ensures.1
+    let p = c.numbers.ensures ∙ ap done_answer c.before.before.before.add-aligned.ensures.0 in
+    promised (to_add_aligned _ _ _) _ _ _ _ p c.before.before.before.add-aligned.ensures.1
 
 pub tl-add-aligned-spec : {M : Type 1} → statement M
 tl-add-aligned-spec =

@@ -1,7 +1,7 @@
 -- The answer in numbers of what `void` answers, and the bytes that it leaves; demand 3 follows from the two.
 use mathlib.Core.Path.{ap, ◌∙◌}
-use Rattle.rules.specs.Outcome.{doneAnswer}
-use Rattle.rules.specs.Edit.{toVoid}
+use Rattle.rules.specs.Outcome.{done_answer}
+use Rattle.rules.specs.Edit.{to_void}
 use Rattle.demand3.proofs.Answered.{promised}
 use borrow.Author.Rules.{rules}
 use Rattle.transfer_list.proofs.tl_void.Statement.{statement}
@@ -18,8 +18,8 @@ same_length c = search rules
 
 returns : tie.Need-returns
 returns c =
-    let p = c.numbers.ensures ∙ ap doneAnswer c.before.before.before.void.ensures.0 in
-    promised (toVoid _ _) _ _ _ _ p c.before.before.before.void.ensures.1
+    let p = c.numbers.ensures ∙ ap done_answer c.before.before.before.void.ensures.0 in
+    promised (to_void _ _) _ _ _ _ p c.before.before.before.void.ensures.1
 
 pub tl-void-spec : {M : Type 1} → statement M
 tl-void-spec = tie.close (tie.spec void-requires numbers-requires same_length returns)

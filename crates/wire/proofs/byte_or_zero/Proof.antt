@@ -1,4 +1,4 @@
--- Behind the end getD gives 0.
+-- Behind the end get_or gives 0.
 use lib.ListN.{get_or-eq_default}
 use Rattle.std.proofs.Common.{rules}
 use Rattle.wire.proofs.byte_or_zero.Statement.{statement}

@@ -1,7 +1,7 @@
 -- The invariant: the list is the one at entry with the first i bytes of src from at on. A turn copies one byte more.
 use Rattle.std.proofs.Common.{◌≡◌, ℕ, ◌+◌, ◌-◌, ◌≤◌, List, [], ◌∷◌, ◌++◌, length, get_or, take, set, sym, ap, ◌∙◌, add-one, arith, length-set, length-take-le, take_all, take-suc, rules}
 use Rattle.wire.specs.Bytes.{splice}
-use Rattle.wire.proofs.Splice.{splice-nil, splice-snoc}
+use Rattle.wire.proofs.Splice.{splice-nil, splice_snoc}
 use Rattle.wire.proofs.copy_part.Statement.{statement}
 use Rattle.wire.proofs.copy_part.Tie as tie
 
@@ -39,7 +39,7 @@ loop-again c =
       omega arith,
       simp length-set (omega arith),
       ap (λ (x : List ℕ). set x (a.at + l.i) v) l.invariant.2
-          ∙ splice-snoc a.a.now a.at (take l.i s) v l.i (length-take-le l.i s (omega arith)) (omega arith)
+          ∙ splice_snoc a.a.now a.at (take l.i s) v l.i (length-take-le l.i s (omega arith)) (omega arith)
           ∙ ap (splice a.a.now a.at) next,
     )
 

@@ -1,6 +1,6 @@
 -- Eight words, one behind the other.
 use Rattle.std.proofs.Common.{arith, rules}
-use Rattle.wire.proofs.Zeros.{zeros-is, zeros-read, zeros-more}
+use Rattle.wire.proofs.Zeros.{zeros-is, zeros-read, zeros_more}
 use Rattle.wire.proofs.is_zero_block.Statement.{statement}
 use Rattle.wire.proofs.is_zero_block.Tie as tie
 
@@ -54,7 +54,7 @@ returns c =
     let d = c.before.before.before.before in
     let a = d.before.before.before.before.before.args in
     let s = a.s.now in
-    let z = zeros-more 8 s a.at in
+    let z = zeros_more 8 s a.at in
     rw zeros-is
     (cc (
       zeros-read 8 s _ _ d.before.before.before.read8.ensures,

@@ -1,7 +1,7 @@
 -- The invariant: the first i blocks are 0. One that is not settles the result.
 use Rattle.std.proofs.Common.{◌≡◌, ◌-◌, ◌*◌, ◌≤◌, true, sym, ◌∙◌, arith, rules}
-use Rattle.wire.specs.Bytes.{allZero}
-use Rattle.wire.proofs.Zeros.{zeros, zeros-is, zeros-behind, zeros-not}
+use Rattle.wire.specs.Bytes.{all_zero}
+use Rattle.wire.proofs.Zeros.{zeros, zeros-is, zeros-behind, zeros_not}
 use borrow.Author.Tests.{not-true, not-false}
 use Rattle.wire.proofs.is_zero_blocks.Statement.{statement}
 use Rattle.wire.proofs.is_zero_blocks.Tie as tie
@@ -13,7 +13,7 @@ abbrev decreases-loop : tie.decreases-loop
 decreases-loop s at n i₀ i = n - i
 
 loop-holds : tie.Need-loop-init invariant-loop decreases-loop
-unfolding allZero zeros
+unfolding all_zero zeros
 loop-holds c = search rules
 
 mul-is-zero-block : tie.Need-overflow-mul-is-zero-block invariant-loop decreases-loop
@@ -29,7 +29,7 @@ returns : tie.Need-returns invariant-loop decreases-loop
 returns c =
     let a = c.before.before.before.before.before.args in
     let z = rw zeros-is at (sym c.before.is-zero-block.ensures ∙ not-true _ c.if1.true) in
-    rw zeros-is (sym (zeros-not a.s.now a.at (64 * a.n) _ _ z (omega arith) (omega arith)))
+    rw zeros-is (sym (zeros_not a.s.now a.at (64 * a.n) _ _ z (omega arith) (omega arith)))
 
 add-i : tie.Need-overflow-add-i invariant-loop decreases-loop
 add-i c = search rules

@@ -1,7 +1,7 @@
 -- The invariant: the first i bytes are 0. One that is not settles the result.
 use Rattle.std.proofs.Common.{◌≡◌, ◌-◌, ◌≤◌, true, sym, ◌∙◌, arith, rules, eq-eqb, ne_eqb}
-use Rattle.wire.specs.Bytes.{allZero}
-use Rattle.wire.proofs.Zeros.{zeros, zeros-is, zeros-byte, zeros-behind, zeros-not}
+use Rattle.wire.specs.Bytes.{all_zero}
+use Rattle.wire.proofs.Zeros.{zeros, zeros-is, zeros_byte, zeros-behind, zeros_not}
 use Rattle.wire.proofs.is_zero_bytes.Statement.{statement}
 use Rattle.wire.proofs.is_zero_bytes.Tie as tie
 
@@ -12,7 +12,7 @@ abbrev decreases-loop : tie.decreases-loop
 decreases-loop s at n i₀ i = n - i
 
 loop-holds : tie.Need-loop-init invariant-loop decreases-loop
-unfolding allZero zeros
+unfolding all_zero zeros
 loop-holds c = search rules
 
 add-if1 : tie.Need-overflow-add-if1 invariant-loop decreases-loop
@@ -25,8 +25,8 @@ returns : tie.Need-returns invariant-loop decreases-loop
 returns c =
     let a = c.before.before.before.before.args in
     let s = a.s.now in
-    let z = sym (zeros-byte s _) ∙ ne_eqb _ 0 c.if1.true in
-    rw zeros-is (sym (zeros-not s a.at a.n _ _ z (omega arith) (omega arith)))
+    let z = sym (zeros_byte s _) ∙ ne_eqb _ 0 c.if1.true in
+    rw zeros-is (sym (zeros_not s a.at a.n _ _ z (omega arith) (omega arith)))
 
 add-i : tie.Need-overflow-add-i invariant-loop decreases-loop
 add-i c = search rules
@@ -39,7 +39,7 @@ loop-again c =
     let k = c.before.before.before in
     let a = k.before.args in
     let s = a.s.now in
-    let z = sym (zeros-byte s _) ∙ eq-eqb _ 0 c.if1.false in
+    let z = sym (zeros_byte s _) ∙ eq-eqb _ 0 c.if1.false in
     (omega arith, sym (zeros-behind s a.at _ _ _ _ k.loop.invariant.1 (omega arith) (omega arith)) ∙ z)
 
 returns-2 : tie.Need-returns-2 invariant-loop decreases-loop

@@ -1,6 +1,6 @@
 -- The bytes are those of the blocks, those of the words behind them and those left, one behind the other.
 use Rattle.std.proofs.Common.{◌%◌, sym, ◌∙◌, arith, rules}
-use Rattle.wire.proofs.Zeros.{zeros-is, zeros-behind, zeros-not}
+use Rattle.wire.proofs.Zeros.{zeros-is, zeros-behind, zeros_not}
 use borrow.Author.Tests.{not-true, not-false}
 use Rattle.wire.proofs.is_zero_part.Statement.{statement}
 use Rattle.wire.proofs.is_zero_part.Tie as tie
@@ -18,7 +18,7 @@ returns-2 : tie.Need-returns-2
 returns-2 c =
     let a = c.before.before.before.before.args in
     let z = rw zeros-is at (sym c.before.is-zero-blocks.ensures ∙ not-true _ c.if2.true) in
-    rw zeros-is (sym (zeros-not a.s.now a.at a.n _ _ z (omega arith) (omega arith)))
+    rw zeros-is (sym (zeros_not a.s.now a.at a.n _ _ z (omega arith) (omega arith)))
 
 mul-behind : tie.Need-overflow-mul-behind
 mul-behind c = search rules
@@ -33,7 +33,7 @@ returns-3 : tie.Need-returns-3
 returns-3 c =
     let a = c.before.before.before.before.before.before.args in
     let z = rw zeros-is at (sym c.before.is-zero-words.ensures ∙ not-true _ c.if3.true) in
-    rw zeros-is (sym (zeros-not a.s.now a.at a.n _ _ z (omega arith) (omega arith)))
+    rw zeros-is (sym (zeros_not a.s.now a.at a.n _ _ z (omega arith) (omega arith)))
 
 mul-is-zero-short : tie.Need-overflow-mul-is-zero-short
 mul-is-zero-short c = search rules

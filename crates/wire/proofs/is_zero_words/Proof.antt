@@ -1,7 +1,7 @@
 -- The invariant: the first i words are 0. One that is not settles the result.
 use Rattle.std.proofs.Common.{◌≡◌, ◌-◌, ◌*◌, ◌≤◌, true, sym, ◌∙◌, arith, rules, eq-eqb, ne_eqb}
-use Rattle.wire.specs.Bytes.{allZero}
-use Rattle.wire.proofs.Zeros.{zeros, zeros-is, zeros-read, zeros-behind, zeros-not}
+use Rattle.wire.specs.Bytes.{all_zero}
+use Rattle.wire.proofs.Zeros.{zeros, zeros-is, zeros-read, zeros-behind, zeros_not}
 use Rattle.wire.proofs.is_zero_words.Statement.{statement}
 use Rattle.wire.proofs.is_zero_words.Tie as tie
 
@@ -12,7 +12,7 @@ abbrev decreases-loop : tie.decreases-loop
 decreases-loop s at n i₀ i = n - i
 
 loop-holds : tie.Need-loop-init invariant-loop decreases-loop
-unfolding allZero zeros
+unfolding all_zero zeros
 loop-holds c = search rules
 
 mul-read8 : tie.Need-overflow-mul-read8 invariant-loop decreases-loop
@@ -29,7 +29,7 @@ returns c =
     let a = c.before.before.before.before.before.args in
     let s = a.s.now in
     let z = sym (zeros-read 8 s _ _ c.before.read8.ensures) ∙ ne_eqb _ 0 c.if1.true in
-    rw zeros-is (sym (zeros-not s a.at (8 * a.n) _ _ z (omega arith) (omega arith)))
+    rw zeros-is (sym (zeros_not s a.at (8 * a.n) _ _ z (omega arith) (omega arith)))
 
 add-i : tie.Need-overflow-add-i invariant-loop decreases-loop
 add-i c = search rules

@@ -1,6 +1,6 @@
 -- A field of eight bytes is one of four and, times 256 ^ 4, the next four.
 use Rattle.std.proofs.Common.{arith, rules}
-use Rattle.wire.proofs.Field.{field-split}
+use Rattle.wire.proofs.Field.{field_split}
 use Rattle.wire.proofs.read8.Statement.{statement}
 use Rattle.wire.proofs.read8.Tie as tie
 
@@ -28,7 +28,7 @@ add-result c = search rules
 returns : tie.Need-returns
 returns c =
     let a = c.before.before.before.before.before.args in
-    omega (arith, field-split a.s.now a.at 4 4)
+    omega (arith, field_split a.s.now a.at 4 4)
 
 pub read8-spec : {M : Type 1} → statement M
 read8-spec =

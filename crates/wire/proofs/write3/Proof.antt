@@ -1,7 +1,7 @@
 -- Three stores one behind the other are a splice of the three bytes.
 use Rattle.std.proofs.Common.{add-one, arith, length-set, rules}
 use Rattle.wire.specs.Bytes.{le_bytes}
-use Rattle.wire.proofs.Splice.{splice-sets}
+use Rattle.wire.proofs.Splice.{splice_sets}
 use Rattle.wire.proofs.write3.Statement.{statement}
 use Rattle.wire.proofs.write3.Tie as tie
 
@@ -35,7 +35,7 @@ same_length c = search rules
 returns : tie.Need-returns
 unfolding le_bytes
 returns c =
-    simp add-one (splice-sets c.args.a.now c.args.at (le_bytes 3 c.args.n) (omega arith))
+    simp add-one (splice_sets c.args.a.now c.args.at (le_bytes 3 c.args.n) (omega arith))
 
 pub write3-spec : {M : Type 1} → statement M
 write3-spec =

@@ -2,7 +2,7 @@
 use Rattle.std.proofs.Common.{ℕ, ◌+◌, ◌/◌, List, sym, ap, ◌∙◌, arith, rules}
 use Rattle.wire.specs.Bytes.{le_bytes, splice}
 use Rattle.wire.proofs.Splice.{splice-append}
-use Rattle.wire.proofs.Field.{leBytes-add, leBytes-mod}
+use Rattle.wire.proofs.Field.{le_bytes-add, le_bytes-mod}
 use Rattle.wire.proofs.write8.Statement.{statement}
 use Rattle.wire.proofs.write8.Tie as tie
 
@@ -31,9 +31,9 @@ returns c =
     let high : List ℕ = le_bytes 4 (a.n / 4294967296) in
     c.before.before.write42.ensures
     ∙ ap (λ (x : List ℕ). splice x (a.at + 4) high) c.before.before.before.before.before.before.write4.ensures
-    ∙ ap (λ (x : List ℕ). splice (splice a.a.now a.at x) (a.at + 4) high) (leBytes-mod 4 a.n)
+    ∙ ap (λ (x : List ℕ). splice (splice a.a.now a.at x) (a.at + 4) high) (le_bytes-mod 4 a.n)
     ∙ splice-append a.a.now a.at (le_bytes 4 a.n) high (omega arith)
-    ∙ ap (splice a.a.now a.at) (sym (leBytes-add 4 4 a.n))
+    ∙ ap (splice a.a.now a.at) (sym (le_bytes-add 4 4 a.n))
 
 pub write8-spec : {M : Type 1} → statement M
 write8-spec =

@@ -2,7 +2,7 @@
 use Rattle.std.proofs.Common.{◌≡◌, ℕ, ◌+◌, ◌-◌, ◌*◌, ◌≤◌, sym, ap, ◌∙◌, arith, rules}
 use Rattle.wire.specs.Bytes.{field, le_bytes, xor}
 use Rattle.wire.proofs.Range.{Bytes}
-use Rattle.wire.proofs.Fold.{word, words, of_four, fold-xor, next-words, four-stretches}
+use Rattle.wire.proofs.Fold.{word, words, of_four, fold-xor, next-words, four_stretches}
 use Rattle.wire.proofs.xor_quarters.Statement.{statement}
 use Rattle.wire.proofs.xor_quarters.Tie as tie
 
@@ -95,7 +95,7 @@ returns c =
     let m : ℕ = 8 * a.n in
     let e : l.i ≡ a.n = omega arith in
     let f : 32 * a.n ≡ m + (m + (m + m)) = omega arith in
-    rw (l.invariant.1, e, f) (four-stretches a.s.now a.at m)
+    rw (l.invariant.1, e, f) (four_stretches a.s.now a.at m)
 
 pub xor-quarters-spec : {M : Type 1} → statement M
 xor-quarters-spec =

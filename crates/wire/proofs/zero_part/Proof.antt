@@ -2,7 +2,7 @@
 use Rattle.std.proofs.Common.{◌≡◌, ℕ, ◌+◌, ◌-◌, ◌≤◌, List, length, set, replicate, sym, ap, ◌∙◌, arith, length-set, rules}
 use lib.ListN.{length-replicate, replicate-append-replicate}
 use Rattle.wire.specs.Bytes.{splice}
-use Rattle.wire.proofs.Splice.{splice-nil, splice-snoc}
+use Rattle.wire.proofs.Splice.{splice-nil, splice_snoc}
 use Rattle.wire.proofs.zero_part.Statement.{statement}
 use Rattle.wire.proofs.zero_part.Tie as tie
 
@@ -35,7 +35,7 @@ loop-again c =
       omega arith,
       simp length-set (omega arith),
       ap (λ (x : List ℕ). set x (a.at + l.i) 0) l.invariant.2
-          ∙ splice-snoc a.a.now a.at zeros 0 l.i (length-replicate l.i 0) (omega arith)
+          ∙ splice_snoc a.a.now a.at zeros 0 l.i (length-replicate l.i 0) (omega arith)
           ∙ ap (splice a.a.now a.at) (replicate-append-replicate l.i 1 0),
     )
 

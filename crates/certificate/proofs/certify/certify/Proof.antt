@@ -1,14 +1,14 @@
 -- What the check refuses is refused; of an accepted list occurrences 0 and 1 of the tag tell whether exactly one entry has it.
 use mathlib.Core.Path.{◌≡◌, sym, ap, ◌∙◌}
 use mathlib.Core.Bool.{false}
-use Rattle.rules.specs.Entries.{entriesOf}
+use Rattle.rules.specs.Entries.{entries_of}
 use Rattle.rules.specs.Certificate.{certify}
 use Rattle.walk.specs.declared.wanted.Wanted.{Wanted}
 use Rattle.walk.specs.declared.check.Surveyed.TheVariants.{Accepted}
-use Rattle.walk.specs.Wanted.{wantedOf, sought}
-use Rattle.walk.specs.Survey.{surveyOf}
+use Rattle.walk.specs.Wanted.{wanted_of, sought}
+use Rattle.walk.specs.Survey.{survey_of}
 use Rattle.walk.proofs.Survey.{refused}
-use Rattle.certificate.proofs.Laws.{certificateWanted, soughtIn, searchable, within, none-there, second-there, one-there}
+use Rattle.certificate.proofs.Laws.{certificate_wanted, sought_in, searchable, within, none-there, second_there, one_there}
 use borrow.Author.Rules.{rules}
 use Rattle.certificate.proofs.certify.certify.Statement.{statement}
 use Rattle.certificate.proofs.certify.certify.Tie as tie
@@ -47,10 +47,10 @@ S c = c.before.before.before.before.before
 
 -- the survey is for occurrence 0
 accepts : (c : tie.After-surveyed) → let a = (S c).args in let g = c.surveyed.given.0 in
-    surveyOf false a.area.now a.base (certificateWanted 0) ≡ Accepted g.0 g.1.0 g.1.1.0
+    survey_of false a.area.now a.base (certificate_wanted 0) ≡ Accepted g.0 g.1.0 g.1.1.0
 accepts c =
     let s = c.before.before in
-    ap (surveyOf false _ _) (sym s.before.wanted.ensures) ∙ sym s.survey.ensures ∙ c.surveyed.given.1
+    ap (survey_of false _ _) (sym s.before.wanted.ensures) ∙ sym s.survey.ensures ∙ c.surveyed.given.1
 
 returns-2 : tie.Need-returns-2
 returns-2 c = sym (none-there _ _ _ _ _ (accepts c.before.before.before) _ _ c.enum-told2.given.1)
@@ -71,13 +71,13 @@ abbrev K : tie.After-seek → tie.After-surveyed
 K c = c.before.before.before.before.before.before
 
 -- the second search is for occurrence 1
-sought-second : (c : tie.After-seek) → c.seek.result ≡ soughtIn (S (K c)).args.area.now 1
-sought-second c = c.seek.ensures ∙ ap (λ (w : Wanted). sought (wantedOf w (entriesOf (S (K c)).args.area.now))) c.before.wanted2.ensures
+sought-second : (c : tie.After-seek) → c.seek.result ≡ sought_in (S (K c)).args.area.now 1
+sought-second c = c.seek.ensures ∙ ap (λ (w : Wanted). sought (wanted_of w (entries_of (S (K c)).args.area.now))) c.before.wanted2.ensures
 
 returns-3 : tie.Need-returns-3
 returns-3 c =
     let k = c.before.before in
-    sym (second-there _ _ _ _ _ (accepts (K k)) _ _ _ (sym (sought-second k) ∙ c.enum-told4.given.1))
+    sym (second_there _ _ _ _ _ (accepts (K k)) _ _ _ (sym (sought-second k) ∙ c.enum-told4.given.1))
 
 certify-entry-requires : tie.Need-certify-entry-requires
 certify-entry-requires c κs =
@@ -89,7 +89,7 @@ returns-4 c =
     let t = c.before in
     let k = t.before.before in
     let f = k.before.before.before.first.given.1 in
-    c.certify-entry.ensures ∙ sym (one-there _ _ _ _ _ (accepts (K k)) _ _ _ f (sym (sought-second k) ∙ t.enum-told3.given.1))
+    c.certify-entry.ensures ∙ sym (one_there _ _ _ _ _ (accepts (K k)) _ _ _ f (sym (sought-second k) ∙ t.enum-told3.given.1))
 
 pub certify-spec : {M : Type 1} → statement M
 certify-spec =

@@ -2,12 +2,12 @@
 use mathlib.Core.Path.{◌≡◌, refl}
 use mathlib.Core.Bool.{true, false, not, ◌&&◌}
 use lib.Ieee.{Float, nan, inf, fin, of_bits, nan_bits, neg, lt}
-use Rattle.rules.specs.Certificate.{notFinite}
+use Rattle.rules.specs.Certificate.{not_finite}
 use Rattle.certificate.proofs.contents.not_finite.Statement.{statement}
 use Rattle.certificate.proofs.contents.not_finite.Tie as tie
 
-between : (x : Float) → not (lt (inf true) x && lt x (inf false)) ≡ notFinite x
-unfolding lt notFinite
+between : (x : Float) → not (lt (inf true) x && lt x (inf false)) ≡ not_finite x
+unfolding lt not_finite
 between nan = refl
 between (inf true) = refl
 between (inf false) = refl

@@ -1,5 +1,5 @@
 -- Each field is the number of its bytes.
-use Rattle.rules.specs.Certificate.{certificateOf}
+use Rattle.rules.specs.Certificate.{certificate_of}
 use borrow.Author.Rules.{rules}
 use Rattle.certificate.proofs.contents.read_certificate.Statement.{statement}
 use Rattle.certificate.proofs.contents.read_certificate.Tie as tie
@@ -29,7 +29,7 @@ read8-requires-6 : tie.Need-read8-requires-6
 read8-requires-6 c κs = search rules
 
 returns : tie.Need-returns
-unfolding certificateOf
+unfolding certificate_of
 returns c =
     let l = c.before.before in
     let n = l.before.before in

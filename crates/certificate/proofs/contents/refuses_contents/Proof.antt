@@ -1,5 +1,5 @@
 -- Each cause is the rule's, in its order.
-use Rattle.rules.specs.Certificate.{refusesContents}
+use Rattle.rules.specs.Certificate.{refuses_contents}
 use borrow.Author.Rules.{rules}
 use Rattle.certificate.proofs.contents.refuses_contents.Statement.{statement}
 use Rattle.certificate.proofs.contents.refuses_contents.Tie as tie
@@ -53,7 +53,7 @@ low-exceeds-high-requires : tie.Need-low-exceeds-high-requires
 low-exceeds-high-requires c κs = search rules
 
 returns : tie.Need-returns
-unfolding refusesContents
+unfolding refuses_contents
 returns c =
     let z = c.before.before in
     let r = z.before.before in

@@ -3,7 +3,7 @@ use Prim.Native.Nat.{◌+◌, ◌-◌}
 use native.Mathlib.Omega.{arith}
 use Rattle.devicetree.specs.Header.{Reservation, last, pair}
 use Rattle.devicetree.specs.Decided.{yes, no}
-use Rattle.devicetree.proofs.Deciding.{said-yes, said-no}
+use Rattle.devicetree.proofs.Deciding.{said_yes, said_no}
 use Rattle.devicetree.proofs.TreeLaws.{reservation-long, reservation-behind}
 use borrow.Author.Rules.{rules}
 use Rattle.devicetree.proofs.header.reservation.Statement.{statement}
@@ -28,7 +28,7 @@ zeros-requires : tie.Need-zeros-requires invariant-loop decreases-loop
 zeros-requires c κs = search rules
 
 returns-2 : tie.Need-returns-2 invariant-loop decreases-loop
-returns-2 c = yes (c.before.before.before.before.loop.invariant.1 (last (omega arith) (said-yes c.before.zeros.ensures c.if2.true)))
+returns-2 c = yes (c.before.before.before.before.loop.invariant.1 (last (omega arith) (said_yes c.before.zeros.ensures c.if2.true)))
 
 add-p : tie.Need-overflow-add-p invariant-loop decreases-loop
 add-p c = search rules
@@ -38,7 +38,7 @@ loop-less c = search rules
 
 loop-again : tie.Need-loop-preserved invariant-loop decreases-loop
 loop-again c =
-    let f = said-no c.before.zeros.ensures c.if2.false in
+    let f = said_no c.before.zeros.ensures c.if2.false in
     let inv = c.before.before.before.before.loop.invariant in
     ((λ r. reservation-behind f (inv.0 r)), λ r. inv.1 (pair f r))
 

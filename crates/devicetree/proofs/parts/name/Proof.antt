@@ -1,5 +1,5 @@
 -- A name is there where its zero byte is and the padding behind that.
-use Rattle.devicetree.proofs.Deciding.{holds, same-decides}
+use Rattle.devicetree.proofs.Deciding.{holds, same_decides}
 use Rattle.devicetree.proofs.PartLaws.{name-none, name-ended}
 use borrow.Author.Rules.{rules}
 use Rattle.devicetree.proofs.parts.name.Statement.{statement}
@@ -24,7 +24,7 @@ padding-requires : tie.Need-padding-requires
 padding-requires c κs = let x = holds c.before.before.before.first-zero.ensures c.before.z.given.1 in let i = x.inside in search rules
 
 returns-2 : tie.Need-returns-2
-returns-2 c = same-decides (name-ended c.before.before.before.before.first-zero.ensures c.before.before.z.given.1) c.padding.ensures
+returns-2 c = same_decides (name-ended c.before.before.before.before.first-zero.ensures c.before.before.z.given.1) c.padding.ensures
 
 pub name-spec : {M : Type 1} → statement M
 name-spec =

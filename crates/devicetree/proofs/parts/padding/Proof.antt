@@ -2,7 +2,7 @@
 use mathlib.Core.Path.{refl}
 use native.Mathlib.Omega.{arith}
 use borrow.Author.Tests.{not-true, not-false}
-use Rattle.devicetree.proofs.Deciding.{said-yes, said-no}
+use Rattle.devicetree.proofs.Deciding.{said_yes, said_no}
 use Rattle.devicetree.proofs.PartLaws.{padding-found, padding-long, padding-dirty}
 use borrow.Author.Rules.{rules}
 use Rattle.devicetree.proofs.parts.padding.Statement.{statement}
@@ -21,10 +21,10 @@ zeros-requires : tie.Need-zeros-requires
 zeros-requires c κs = search rules
 
 returns-2 : tie.Need-returns-2
-returns-2 c = padding-dirty refl (said-no c.before.zeros.ensures (not-true _ c.if2.true))
+returns-2 c = padding-dirty refl (said_no c.before.zeros.ensures (not-true _ c.if2.true))
 
 returns-3 : tie.Need-returns-3
-returns-3 c = padding-found refl (omega arith) (said-yes c.before.zeros.ensures (not-false _ c.if2.false))
+returns-3 c = padding-found refl (omega arith) (said_yes c.before.zeros.ensures (not-false _ c.if2.false))
 
 pub padding-spec : {M : Type 1} → statement M
 padding-spec = tie.close (tie.spec add-n mul-n returns zeros-requires returns-2 returns-3)

@@ -1,6 +1,6 @@
 -- A value is there where its two numbers are and the padding behind it.
 use native.Mathlib.Omega.{arith}
-use Rattle.devicetree.proofs.Deciding.{same-decides}
+use Rattle.devicetree.proofs.Deciding.{same_decides}
 use Rattle.devicetree.proofs.PartLaws.{value-short, value-padding}
 use borrow.Author.Rules.{rules}
 use Rattle.devicetree.proofs.parts.value.Statement.{statement}
@@ -28,7 +28,7 @@ padding-requires : tie.Need-padding-requires
 padding-requires c κs = search rules
 
 returns-2 : tie.Need-returns-2
-returns-2 c = same-decides (value-padding (omega arith) c.before.cell.ensures) c.padding.ensures
+returns-2 c = same_decides (value-padding (omega arith) c.before.cell.ensures) c.padding.ensures
 
 pub value_spec : {M : Type 1} → statement M
 value_spec =

@@ -4,8 +4,8 @@ use native.Mathlib.Omega.{arith}
 use lib.ListN.{length}
 use borrow.Author.Tests.{not-true, not-false}
 use Rattle.devicetree.specs.Decided.{no}
-use Rattle.devicetree.proofs.Deciding.{said-yes, said-no}
-use Rattle.devicetree.proofs.TreeLaws.{order, structure-length, blocks-unheaded, blocks-structure}
+use Rattle.devicetree.proofs.Deciding.{said_yes, said_no}
+use Rattle.devicetree.proofs.TreeLaws.{order, structure-length, blocks_unheaded, blocks-structure}
 use borrow.Author.Rules.{rules}
 use Rattle.devicetree.proofs.tree.blocks.Statement.{statement}
 use Rattle.devicetree.proofs.tree.blocks.Tie as tie
@@ -14,7 +14,7 @@ headed-requires : tie.Need-headed-requires
 headed-requires c κs = search rules
 
 returns : tie.Need-returns
-returns c = no (blocks-unheaded (sym c.before.headed.ensures ∙ not-true _ c.if1.true))
+returns c = no (blocks_unheaded (sym c.before.headed.ensures ∙ not-true _ c.if1.true))
 
 cast-at : tie.Need-overflow-cast-at
 cast-at c = search rules
@@ -29,7 +29,7 @@ reservation-requires c κs =
     let s = o.structure in let t = o.strings in let u = o.within in omega arith
 
 returns-2 : tie.Need-returns-2
-returns-2 c = no (λ x. said-no c.before.reservation.ensures (not-true _ c.if2.true) x.reservation)
+returns-2 c = no (λ x. said_no c.before.reservation.ensures (not-true _ c.if2.true) x.reservation)
 
 structure-requires : tie.Need-structure-requires
 structure-requires c κs = sym c.before.before.before.before.before.headed.ensures ∙ not-false _ c.before.before.before.before.if1.false
@@ -52,7 +52,7 @@ returns-3 : tie.Need-returns-3
 returns-3 c =
     let k₁ = c.before.before.before.before.before.before.before in
     let k = c.before.before.before in
-    let r = said-yes k.before.reservation.ensures (not-false _ k.if2.false) in
+    let r = said_yes k.before.reservation.ensures (not-false _ k.if2.false) in
     blocks-structure (sym k₁.before.headed.ensures ∙ not-false _ k₁.if1.false) r c.before.before.structure.ensures
     c.before.strings.ensures c.structure2.ensures
 

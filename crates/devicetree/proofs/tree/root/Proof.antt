@@ -1,8 +1,8 @@
 -- The first token is a node's and its name is empty: then the root is there exactly where that node is.
 use native.Mathlib.Omega.{arith}
-use Rattle.devicetree.proofs.Deciding.{refuted, same-decides}
+use Rattle.devicetree.proofs.Deciding.{refuted, same_decides}
 use Rattle.devicetree.proofs.TokenLaws.{stands-bounds}
-use Rattle.devicetree.proofs.TreeLaws.{root_none, root-other, root-full, root-named, root-node}
+use Rattle.devicetree.proofs.TreeLaws.{root_none, root-other, root_full, root-named, root-node}
 use borrow.Author.Rules.{rules}
 use Rattle.devicetree.proofs.tree.root.Statement.{statement}
 use Rattle.devicetree.proofs.tree.root.Tie as tie
@@ -23,7 +23,7 @@ returns-2 : tie.Need-returns-2
 returns-2 c = let k = c.before in refuted (root-other k.before.before.before.next-token.ensures k.before.kind.given.1 c.if1.true)
 
 returns-3 : tie.Need-returns-3
-returns-3 c = let k = c.before.before in refuted (root-full k.before.before.before.next-token.ensures k.before.kind.given.1 c.if2.true)
+returns-3 c = let k = c.before.before in refuted (root_full k.before.before.before.next-token.ensures k.before.kind.given.1 c.if2.true)
 
 shared-slice-read-if3 : tie.Need-shared-slice-read-if3
 shared-slice-read-if3 c =
@@ -49,7 +49,7 @@ returns-5 c =
     let T = k.before.before.before.next-token.ensures in
     let q = k.before.kind.given.1 in
     let b = stands-bounds T q in
-    same-decides (root-node T q k₁.if1.false (omega arith) c.before.if3.false) c.node.ensures
+    same_decides (root-node T q k₁.if1.false (omega arith) c.before.if3.false) c.node.ensures
 
 pub root-spec : {M : Type 1} → statement M
 root-spec =

@@ -1,7 +1,7 @@
 -- The root ends at one place, and the token behind it is END, to the very end, or the structure is none.
 use Rattle.devicetree.specs.Decided.{no}
 use Rattle.devicetree.proofs.Deciding.{holds}
-use Rattle.devicetree.proofs.TreeLaws.{root-bounds, structure-none, structure-open, structure-ends}
+use Rattle.devicetree.proofs.TreeLaws.{root-bounds, structure-none, structure_open, structure-ends}
 use borrow.Author.Rules.{rules}
 use Rattle.devicetree.proofs.tree.structure.Statement.{statement}
 use Rattle.devicetree.proofs.tree.structure.Tie as tie
@@ -30,7 +30,7 @@ enum-told-2 c = search rules
 returns-2 : tie.Need-returns-2
 returns-2 c =
     let k₁ = c.before.before.before.before in
-    no (structure-open k₁.before.before.root.ensures k₁.n.given.1 c.before.before.next-token.ensures c.enum-told2.given.1)
+    no (structure_open k₁.before.before.root.ensures k₁.n.given.1 c.before.before.next-token.ensures c.enum-told2.given.1)
 
 returns-3 : tie.Need-returns-3
 returns-3 c =

@@ -6,18 +6,18 @@ use mathlib.Core.Bool.{cond}
 use lib.ListN.{length}
 use Rattle.rules.specs.declared.Refusal.TheVariants.{Shape, Align}
 use Rattle.rules.specs.declared.Header.{Header}
-use Rattle.rules.specs.Area.{maxAlignment}
-use Rattle.rules.specs.Header.{leastAlignment}
-use Rattle.rules.specs.Refusals.{refusesAlign}
-use Rattle.rules.specs.Tags.{refusesShape}
+use Rattle.rules.specs.Area.{max_alignment}
+use Rattle.rules.specs.Header.{least_alignment}
+use Rattle.rules.specs.Refusals.{refuses_align}
+use Rattle.rules.specs.Tags.{refuses_shape}
 use Rattle.rules.specs.Outcome.{Outcome, refused}
-use Rattle.rules.specs.AddAligned.{addAlignedAtEnd, addAligned}
-use Rattle.rules.specs.Edit.{run, toAddAligned}
+use Rattle.rules.specs.AddAligned.{add_aligned_at_end, add_aligned}
+use Rattle.rules.specs.Edit.{run, to_add_aligned}
 use Rattle.laws.proofs.Check.{Admitted}
-use Rattle.laws.proofs.Passed.{tag-range, align-range}
+use Rattle.laws.proofs.Passed.{tag_range, align_range}
 use Rattle.laws.proofs.Walk.{neither}
 use Rattle.clean.proofs.Admission as admission
-use Rattle.edit.proofs.Laws.{decides-refused, padding-span, padding-small, aligned-end}
+use Rattle.edit.proofs.Laws.{decides_refused, padding-span, padding-small, aligned-end}
 use borrow.Author.Rules.{rules}
 use Rattle.edit.proofs.decide.decide_add_aligned.Statement.{statement}
 use Rattle.edit.proofs.decide.decide_add_aligned.Tie as tie
@@ -41,7 +41,7 @@ returns : tie.Need-returns
 returns c =
     let s = c.before.before.before in
     let k = c.before.enum_told.given.1 in
-    decides-refused _ _ _ _ _ (simp (c.refusal.ensures, k, admission.refused _ _ _ _ (sym s.admit.ensures ∙ k)))
+    decides_refused _ _ _ _ _ (simp (c.refusal.ensures, k, admission.refused _ _ _ _ (sym s.admit.ensures ∙ k)))
 
 refuses-tag-add-requires : tie.Need-refuses-tag-add-requires
 refuses-tag-add-requires c κs = search rules
@@ -51,46 +51,46 @@ S c = c.before.before.before.before.before.before
 
 -- the outcome that the rules give
 abbrev ruled : tie.After-surveyed → Outcome
-ruled c = let a = (S c).args in run (toAddAligned a.tag a.«data».now a.exponent) a.area.now a.base
+ruled c = let a = (S c).args in run (to_add_aligned a.tag a.«data».now a.exponent) a.area.now a.base
 
-abbrev atEnd : tie.After-surveyed → Outcome
-atEnd c = let a = (S c).args in addAlignedAtEnd a.area.now a.base a.tag a.«data».now a.exponent
+abbrev at_end : tie.After-surveyed → Outcome
+at_end c = let a = (S c).args in add_aligned_at_end a.area.now a.base a.tag a.«data».now a.exponent
 
 -- the list is admitted
 ran : (c : tie.After-surveyed) → let a = (S c).args in
-    ruled c ≡ addAligned a.area.now a.base a.tag a.«data».now a.exponent
+    ruled c ≡ add_aligned a.area.now a.base a.tag a.«data».now a.exponent
 ran c = simp (admission.accepted _ _ _ _ _ _ (sym c.before.before.admit.ensures ∙ c.surveyed.given.1)).checked
 
 returns-2 : tie.Need-returns-2
-unfolding addAligned
+unfolding add_aligned
 returns-2 c =
     let t = c.before in
-    decides-refused _ _ _ _ _ (ran t.before.before ∙ simp (← t.refuses-tag-add.ensures, c.if1.true))
+    decides_refused _ _ _ _ _ (ran t.before.before ∙ simp (← t.refuses-tag-add.ensures, c.if1.true))
 
 refuses-shape-requires : tie.Need-refuses-shape-requires
 refuses-shape-requires c κs = search rules
 
 -- the tag is not refused
 tagged : (c : tie.Else1) → let k = c.before.before.before in let a = (S k).args in
-    ruled k ≡ cond (refusesShape a.tag (length a.«data».now)) (refused Shape) (cond (refusesAlign a.exponent) (refused Align) (atEnd k))
-unfolding addAligned
+    ruled k ≡ cond (refuses_shape a.tag (length a.«data».now)) (refused Shape) (cond (refuses_align a.exponent) (refused Align) (at_end k))
+unfolding add_aligned
 tagged c = ran c.before.before.before ∙ simp (← c.before.refuses-tag-add.ensures, c.if1.false)
 
 returns-3 : tie.Need-returns-3
 returns-3 c =
-    decides-refused _ _ _ _ _ (tagged c.before.before ∙ simp (← c.before.refuses-shape.ensures, c.if2.true))
+    decides_refused _ _ _ _ _ (tagged c.before.before ∙ simp (← c.before.refuses-shape.ensures, c.if2.true))
 
 refuses-align-requires : tie.Need-refuses-align-requires
 refuses-align-requires c κs = search rules
 
 -- nor is the length
 shaped : (c : tie.Else2) → let k = c.before.before.before.before.before in
-    ruled k ≡ cond (refusesAlign (S k).args.exponent) (refused Align) (atEnd k)
+    ruled k ≡ cond (refuses_align (S k).args.exponent) (refused Align) (at_end k)
 shaped c = tagged c.before.before ∙ simp (← c.before.refuses-shape.ensures, c.if2.false)
 
 returns-4 : tie.Need-returns-4
 returns-4 c =
-    decides-refused _ _ _ _ _ (shaped c.before.before ∙ simp (← c.before.refuses-align.ensures, c.if3.true))
+    decides_refused _ _ _ _ _ (shaped c.before.before ∙ simp (← c.before.refuses-align.ensures, c.if3.true))
 
 abbrev K : tie.Else3 → tie.After-surveyed
 K c = c.before.before.before.before.before.before.before
@@ -102,11 +102,11 @@ admitted : (c : tie.Else3) → Admitted (S (K c)).args.area.now (S (K c)).args.b
 admitted c = admission.admitted _ _ _ _ _ _ (sym (K c).before.before.admit.ensures ∙ (K c).surveyed.given.1)
 
 -- the exponent is in its range
-ranged : (c : tie.Else3) → (leastAlignment ≤ (S (K c)).args.exponent) × ((S (K c)).args.exponent ≤ maxAlignment)
-ranged c = align-range (S (K c)).args.exponent (sym c.before.refuses-align.ensures ∙ c.if3.false)
+ranged : (c : tie.Else3) → (least_alignment ≤ (S (K c)).args.exponent) × ((S (K c)).args.exponent ≤ max_alignment)
+ranged c = align_range (S (K c)).args.exponent (sym c.before.refuses-align.ensures ∙ c.if3.false)
 
 -- and the outcome is that at used_size
-aligned : (c : tie.Else3) → ruled (K c) ≡ atEnd (K c)
+aligned : (c : tie.Else3) → ruled (K c) ≡ at_end (K c)
 aligned c = shaped c.before.before ∙ simp (← c.before.refuses-align.ensures, c.if3.false)
 
 padding-for-requires : tie.Need-padding-for-requires
@@ -131,7 +131,7 @@ decide-end-requires c κs =
       m,
       rw p (padding-span _ _ _ e.0 h.usable.base8 (rw u h.sizes.used8)),
       rw p (omega (arith, padding-small (S (K i)).args.base (header i).used_size (S (K i)).args.exponent e.1)),
-      (tag-range _ r).1,
+      (tag_range _ r).1,
     )
 
 returns-5 : tie.Need-returns-5

@@ -6,12 +6,12 @@ use mathlib.Core.Option.{some}
 use lib.ListN.{length}
 use borrow.Author.Tests.{not-true, not-false}
 use Rattle.wire.proofs.Range.{Bytes}
-use Rattle.rules.specs.Entries.{entriesOf}
-use Rattle.rules.specs.Add.{firstFit}
-use Rattle.walk.proofs.Survey.{sought-at, sought-nothing}
+use Rattle.rules.specs.Entries.{entries_of}
+use Rattle.rules.specs.Add.{first_fit}
+use Rattle.walk.proofs.Survey.{sought_at, sought-nothing}
 use Rattle.plan.specs.Plan.{WellFormed}
-use Rattle.edit.specs.Decide.{planInVoid}
-use Rattle.edit.proofs.Laws.{decides-plan, asks, void-room, in-void-formed, in-void-comes, add-end}
+use Rattle.edit.specs.Decide.{plan_in_void}
+use Rattle.edit.proofs.Laws.{decides_plan, asks, void-room, in_void_formed, in_void-comes, add-end}
 use borrow.Author.Rules.{rules}
 use Rattle.edit.proofs.decide.decide_place.Statement.{statement}
 use Rattle.edit.proofs.decide.decide_place.Tie as tie
@@ -41,19 +41,19 @@ returns-2 c =
     let k = i.before.before in
     let m = k.before.requires.0 in
     let u : k.before.args.use-voids ≡ true = not-false _ i.if1.false in
-    let n = sought-nothing (firstFit _ _) (sym k.before.requires.1 ∙ c.before.enum_told.given.1) in
+    let n = sought-nothing (first_fit _ _) (sym k.before.requires.1 ∙ c.before.enum_told.given.1) in
     rw (u, n, add-end _ _ _ m (λ i. omega (arith, k.shared-slice-known.given i)), ← m.header) c.decide-end2.ensures
 
 abbrev S : tie.After-fit → tie.Start
 S c = c.before.before.before.before.before
 
 -- the void is the first that fits, and the plan is well-formed
-fits : (c : tie.After-fit) → firstFit (length (S c).args.«data».now) (entriesOf (S c).args.area.now) ≡ some c.fit.given.0.0
-fits c = sought-at (firstFit _ _) _ (sym (S c).requires.1 ∙ c.fit.given.1)
+fits : (c : tie.After-fit) → first_fit (length (S c).args.«data».now) (entries_of (S c).args.area.now) ≡ some c.fit.given.0.0
+fits c = sought_at (first_fit _ _) _ (sym (S c).requires.1 ∙ c.fit.given.1)
 
 formed : (c : tie.After-fit) → let a = (S c).args in let n = length a.«data».now in
-    WellFormed a.h (length a.area.now) n (planInVoid a.h c.fit.given.0.0 a.tag n)
-formed c = in-void-formed _ _ _ (S c).requires.0 _ _ _ (fits c) (S c).requires.2
+    WellFormed a.h (length a.area.now) n (plan_in_void a.h c.fit.given.0.0 a.tag n)
+formed c = in_void_formed _ _ _ (S c).requires.0 _ _ _ (fits c) (S c).requires.2
 
 in-void-requires : tie.Need-in-void-requires
 in-void-requires c κs =
@@ -72,7 +72,7 @@ returns-3 c =
     let b : Bytes k.before.args.area.now = λ i. omega (arith, k.shared-slice-known.given i) in
     let u : k.before.args.use-voids ≡ true = not-false _ i.if1.false in
     rw (u, fits f, ← m.header, c.with-checksum.ensures, c.before.in-void.ensures)
-    (decides-plan _ _ _ _ _ _ m b (formed f) (in-void-comes _ _ _ m b _ _ _))
+    (decides_plan _ _ _ _ _ _ m b (formed f) (in_void-comes _ _ _ m b _ _ _))
 
 pub decide-place-spec : {M : Type 1} → statement M
 decide-place-spec =

@@ -5,18 +5,18 @@ use mathlib.Core.Option.{some}
 use mathlib.Core.List.{[]}
 use lib.ListN.{length}
 use Rattle.wire.proofs.Range.{Bytes}
-use Rattle.rules.specs.Entries.{entriesOf, occurrence}
+use Rattle.rules.specs.Entries.{entries_of, occurrence}
 use Rattle.rules.specs.Outcome.{Outcome}
-use Rattle.rules.specs.Void.{voidAt, void}
-use Rattle.rules.specs.Edit.{run, toVoid}
+use Rattle.rules.specs.Void.{void_at, void}
+use Rattle.rules.specs.Edit.{run, to_void}
 use Rattle.laws.proofs.Check.{Admitted}
-use Rattle.laws.proofs.Passed.{tag-range}
+use Rattle.laws.proofs.Passed.{tag_range}
 use Rattle.walk.specs.Wanted.{sought}
-use Rattle.walk.proofs.Survey.{occurrence-wanted, sought-at, sought-nothing}
+use Rattle.walk.proofs.Survey.{occurrence_wanted, sought_at, sought-nothing}
 use Rattle.clean.proofs.Admission as admission
 use Rattle.plan.specs.Plan.{WellFormed}
-use Rattle.edit.specs.Decide.{planVoid}
-use Rattle.edit.proofs.Laws.{decides-refused, decides-plan, asks, void-formed, void-comes}
+use Rattle.edit.specs.Decide.{plan_void}
+use Rattle.edit.proofs.Laws.{decides_refused, decides_plan, asks, void_formed, void-comes}
 use borrow.Author.Rules.{rules}
 use Rattle.edit.proofs.decide.decide_void.Statement.{statement}
 use Rattle.edit.proofs.decide.decide_void.Tie as tie
@@ -37,7 +37,7 @@ returns : tie.Need-returns
 returns c =
     let s = c.before.before.before in
     let k = c.before.enum_told.given.1 in
-    decides-refused _ _ _ _ _ (simp (c.refusal.ensures, k, admission.refused _ _ _ _ (sym s.admit.ensures ∙ k)))
+    decides_refused _ _ _ _ _ (simp (c.refusal.ensures, k, admission.refused _ _ _ _ (sym s.admit.ensures ∙ k)))
 
 refuses-tag-requires : tie.Need-refuses-tag-requires
 refuses-tag-requires c κs = search rules
@@ -47,7 +47,7 @@ S c = c.before.before.before.before
 
 -- the outcome that the rules give
 abbrev ruled : tie.After-surveyed → Outcome
-ruled c = let a = (S c).args in run (toVoid a.tag a.n) a.area.now a.base
+ruled c = let a = (S c).args in run (to_void a.tag a.n) a.area.now a.base
 
 -- what the survey tells of an accepted list
 told : (c : tie.After-surveyed) → let a = (S c).args in let x = c.surveyed.given.0 in
@@ -58,7 +58,7 @@ returns-2 : tie.Need-returns-2
 unfolding void
 returns-2 c =
     let t = c.before in
-    decides-refused _ _ _ _ _ (simp ((told t.before.before).checked, ← t.refuses-tag.ensures, c.if1.true))
+    decides_refused _ _ _ _ _ (simp ((told t.before.before).checked, ← t.refuses-tag.ensures, c.if1.true))
 
 enum-known-found : tie.Need-enum-known-found
 enum-known-found c = search rules
@@ -68,19 +68,19 @@ enum-told-2 c = search rules
 
 -- the list is admitted and the tag is not refused
 tagged : (c : tie.Else1) → let k = c.before.before.before in let a = (S k).args in
-    ruled k ≡ voidAt a.area.now (occurrence a.tag a.n (entriesOf a.area.now))
+    ruled k ≡ void_at a.area.now (occurrence a.tag a.n (entries_of a.area.now))
 unfolding void
 tagged c = simp ((told c.before.before.before).checked, ← c.before.refuses-tag.ensures, c.if1.false)
 
 met : (c : tie.Else1) → let k = c.before.before.before in let a = (S k).args in
-    k.surveyed.given.0.1.1.0 ≡ sought (occurrence a.tag a.n (entriesOf a.area.now))
-met c = rw occurrence-wanted (told c.before.before.before).found
+    k.surveyed.given.0.1.1.0 ≡ sought (occurrence a.tag a.n (entries_of a.area.now))
+met c = rw occurrence_wanted (told c.before.before.before).found
 
 returns-3 : tie.Need-returns-3
 returns-3 c =
     let t = c.before.before in
     let n = sought-nothing (occurrence _ _ _) (sym (met t) ∙ c.enum-told2.given.1) in
-    decides-refused _ _ _ _ _ (tagged t ∙ simp n)
+    decides_refused _ _ _ _ _ (tagged t ∙ simp n)
 
 abbrev T : tie.After-found → tie.Else1
 T c = c.before.before
@@ -89,17 +89,17 @@ abbrev K : tie.After-found → tie.After-surveyed
 K c = (T c).before.before.before
 
 found : (c : tie.After-found) → let a = (S (K c)).args in
-    occurrence a.tag a.n (entriesOf a.area.now) ≡ some c.found.given.0.0
-found c = sought-at (occurrence _ _ _) _ (sym (met (T c)) ∙ c.found.given.1)
+    occurrence a.tag a.n (entries_of a.area.now) ≡ some c.found.given.0.0
+found c = sought_at (occurrence _ _ _) _ (sym (met (T c)) ∙ c.found.given.1)
 
 admitted : (c : tie.After-found) → Admitted (S (K c)).args.area.now (S (K c)).args.base (K c).surveyed.given.0.1.0
 admitted c = admission.admitted _ _ _ _ _ _ (sym (K c).before.before.admit.ensures ∙ (K c).surveyed.given.1)
 
 formed : (c : tie.After-found) → let a = (S (K c)).args in let h = (K c).surveyed.given.0.1.0 in
-    WellFormed h (length a.area.now) 0 (planVoid h c.found.given.0.0)
+    WellFormed h (length a.area.now) 0 (plan_void h c.found.given.0.0)
 formed c =
-    let t = tag-range _ (sym (T c).before.refuses-tag.ensures ∙ (T c).if1.false) in
-    void-formed _ _ _ (admitted c) _ _ _ t.0 (found c)
+    let t = tag_range _ (sym (T c).before.refuses-tag.ensures ∙ (T c).if1.false) in
+    void_formed _ _ _ (admitted c) _ _ _ t.0 (found c)
 
 void-plan-requires : tie.Need-void-plan-requires
 void-plan-requires c κs = omega (arith, formed c.before)
@@ -119,7 +119,7 @@ returns-4 c =
     let m = admitted f in
     let b : Bytes (S (K f)).args.area.now = λ i. omega (arith, (K f).before.before.before.shared-slice-known.given i) in
     rw (tagged (T f), found f, ← m.header, c.with-checksum.ensures, v.void-plan.ensures)
-    (decides-plan _ [] _ _ _ _ m b (formed f) (void-comes _ _ _ m b f.found.given.0.0))
+    (decides_plan _ [] _ _ _ _ m b (formed f) (void-comes _ _ _ m b f.found.given.0.0))
 
 pub decide-void-spec : {M : Type 1} → statement M
 decide-void-spec =

@@ -1,6 +1,6 @@
 -- What begins as the rules say comes, by its steps, to what they say.
 use Rattle.journalled.proofs.Laws.{journalled-is}
-use Rattle.rules.specs.Edit.{toAddAligned}
+use Rattle.rules.specs.Edit.{to_add_aligned}
 use borrow.Author.Rules.{rules}
 use Rattle.journalled.proofs.forms.add_aligned.Statement.{statement}
 use Rattle.journalled.proofs.forms.add_aligned.Tie as tie
@@ -21,7 +21,7 @@ returns : tie.Need-returns
 returns c =
     let f = c.before.before.before.before in
     let s = f.before.before.before.add-aligned.ensures in
-    journalled-is (toAddAligned _ _ _) _ _ _ _ _ s.0 s.1 f.finish.ensures
+    journalled-is (to_add_aligned _ _ _) _ _ _ _ _ s.0 s.1 f.finish.ensures
 
 pub add-aligned-spec : {M : Type 1} → statement M
 add-aligned-spec =

@@ -1,6 +1,6 @@
 -- What begins as the rules say comes, by its steps, to what they say.
 use Rattle.journalled.proofs.Laws.{journalled-is}
-use Rattle.rules.specs.Edit.{toVoid}
+use Rattle.rules.specs.Edit.{to_void}
 use borrow.Author.Rules.{rules}
 use Rattle.journalled.proofs.forms.void.Statement.{statement}
 use Rattle.journalled.proofs.forms.void.Tie as tie
@@ -24,7 +24,7 @@ returns : tie.Need-returns
 returns c =
     let f = c.before.before.before.before in
     let s = f.before.before.before.before.void.ensures in
-    journalled-is (toVoid _ _) _ _ _ _ _ s.0 s.1 f.finish.ensures
+    journalled-is (to_void _ _) _ _ _ _ _ s.0 s.1 f.finish.ensures
 
 pub void-spec : {M : Type 1} → statement M
 void-spec =

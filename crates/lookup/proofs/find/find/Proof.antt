@@ -2,9 +2,9 @@
 use mathlib.Core.Path.{sym, subst}
 use native.Mathlib.Omega.{arith}
 use borrow.Author.Tests.{not-true, not-false}
-use Rattle.devicetree.proofs.Deciding.{said-yes, said-no}
+use Rattle.devicetree.proofs.Deciding.{said_yes, said_no}
 use Rattle.lookup.specs.Lookup.{Lookup, broken}
-use Rattle.lookup.proofs.AnswerLaws.{lookup-none}
+use Rattle.lookup.proofs.AnswerLaws.{lookup_none}
 use borrow.Author.Rules.{rules}
 use Rattle.lookup.proofs.find.find.Statement.{statement}
 use Rattle.lookup.proofs.find.find.Tie as tie
@@ -17,7 +17,7 @@ refused-requires c κs = search rules
 
 returns : tie.Need-returns
 returns c =
-    let no-tree = said-no c.before.before.tree.ensures (not-true _ c.before.if1.true) in
+    let no-tree = said_no c.before.before.tree.ensures (not-true _ c.before.if1.true) in
     subst (Lookup _ _ _) (sym c.refused.ensures) (broken no-tree)
 
 refused-requires-2 : tie.Need-refused-requires-2
@@ -25,11 +25,11 @@ refused-requires-2 c κs = search rules
 
 returns-2 : tie.Need-returns-2
 returns-2 c =
-    let tree = said-yes c.before.before.before.tree.ensures (not-false _ c.before.before.if1.false) in
-    subst (Lookup _ _ _) (sym c.refused2.ensures) (lookup-none tree c.before.if2.true)
+    let tree = said_yes c.before.before.before.tree.ensures (not-false _ c.before.before.if1.false) in
+    subst (Lookup _ _ _) (sym c.refused2.ensures) (lookup_none tree c.before.if2.true)
 
 search-requires : tie.Need-search-requires
-search-requires c κs = (said-yes c.before.before.tree.ensures (not-false _ c.before.if1.false), omega arith)
+search-requires c κs = (said_yes c.before.before.tree.ensures (not-false _ c.before.if1.false), omega arith)
 
 returns-3 : tie.Need-returns-3
 returns-3 c = search rules

@@ -2,7 +2,7 @@
 use mathlib.Core.Path.{refl}
 use native.Mathlib.Omega.{arith}
 use native.Mathlib.Nat.{add-sub_cancel_left}
-use Rattle.lookup.proofs.AnswerLaws.{lookup-within}
+use Rattle.lookup.proofs.AnswerLaws.{lookup_within}
 use borrow.Author.Rules.{rules}
 use Rattle.lookup.proofs.find.find_data.Statement.{statement}
 use Rattle.lookup.proofs.find.find_data.Tie as tie
@@ -26,7 +26,7 @@ part-result-start : tie.Need-slice-bounds-result-start
 part-result-start c = search rules
 
 part-result-end : tie.Need-slice-bounds-result-end
-part-result-end c = let i = lookup-within c.before.before.find.ensures in search rules
+part-result-end c = let i = lookup_within c.before.before.find.ensures in search rules
 
 returns : tie.Need-returns
 returns c =

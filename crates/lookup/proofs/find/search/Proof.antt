@@ -2,7 +2,7 @@
 use mathlib.Core.Path.{sym, subst}
 use native.Mathlib.Omega.{arith}
 use Rattle.lookup.specs.Lookup.{found_at, Lookup}
-use Rattle.lookup.proofs.AnswerLaws.{tree-headed, structure-starts, lookup-there, lookup-after, lookup-broken, lookup-small}
+use Rattle.lookup.proofs.AnswerLaws.{tree_headed, structure-starts, lookup_there, lookup_after, lookup_broken, lookup_small}
 use borrow.Author.Rules.{rules}
 use Rattle.lookup.proofs.find.search.Statement.{statement}
 use Rattle.lookup.proofs.find.search.Tie as tie
@@ -15,7 +15,7 @@ answer : (c : tie.After-known-told)
 answer c =
     let k = c.before.before.before in
     let h = k.before.before.before.before.before in
-    lookup-there h.before.before.before.before.requires.0 h.read.ensures k.before.before.structure.ensures
+    lookup_there h.before.before.before.before.requires.0 h.read.ensures k.before.before.structure.ensures
     k.before.strings.ensures k.before.before.before.below_root.ensures k.seek-root.ensures c.before.from.given.1
 
 read-requires : tie.Need-read-requires
@@ -28,12 +28,12 @@ below-root-requires : tie.Need-below-root-requires
 below-root-requires c κs = search rules
 
 structure-requires : tie.Need-structure-requires
-structure-requires c κs = tree-headed c.before.before.before.before.before.before.requires.0 c.before.before.read.ensures
+structure-requires c κs = tree_headed c.before.before.before.before.before.before.requires.0 c.before.before.read.ensures
 
 strings-requires : tie.Need-strings-requires
 strings-requires c κs =
     let k₁ = c.before.before.before.before.before.before.before in
-    tree-headed k₁.requires.0 c.before.before.before.read.ensures
+    tree_headed k₁.requires.0 c.before.before.before.read.ensures
 
 seek-root-requires : tie.Need-seek-root-requires
 seek-root-requires c κs =
@@ -47,13 +47,13 @@ enum-known-from c = search rules
 cast-offset : tie.Need-overflow-cast-offset
 cast-offset c =
     let k₁ = c.before.before.before.before.before.before.before.before.before.before.before in
-    let small = lookup-small (λ i. omega (arith, k₁.shared-slice-known.given i)) (answer c) in
+    let small = lookup_small (λ i. omega (arith, k₁.shared-slice-known.given i)) (answer c) in
     omega arith
 
 cast-size : tie.Need-overflow-cast-size
 cast-size c =
     let k₁ = c.before.before.before.before.before.before.before.before.before.before.before in
-    let small = lookup-small (λ i. omega (arith, k₁.shared-slice-known.given i)) (answer c) in
+    let small = lookup_small (λ i. omega (arith, k₁.shared-slice-known.given i)) (answer c) in
     omega arith
 
 enum_told : tie.Need-enum-told
@@ -77,7 +77,7 @@ returns-2 c =
     let k₂ = k₁.before.before.before.before in
     let k₃ = k₂.before.before.before.before in
     let x = k₃.requires.0 in
-    let a = lookup-after x k₂.read.ensures k₁.before.structure.ensures k₁.strings.ensures k₁.before.before.below_root.ensures
+    let a = lookup_after x k₂.read.ensures k₁.before.structure.ensures k₁.strings.ensures k₁.before.before.below_root.ensures
     c.before.before.before.seek-root.ensures in
     subst (Lookup _ _ _) (sym c.refused.ensures) (a c.before.enum_told.given.1)
 
@@ -87,7 +87,7 @@ returns-3 c =
     let k₂ = k₁.before.before.before.before in
     let k₃ = k₂.before.before.before.before in
     let x = k₃.requires.0 in
-    let a = lookup-broken x k₂.read.ensures k₁.before.structure.ensures k₁.strings.ensures k₁.before.before.below_root.ensures
+    let a = lookup_broken x k₂.read.ensures k₁.before.structure.ensures k₁.strings.ensures k₁.before.before.below_root.ensures
     c.before.before.before.seek-root.ensures in
     subst (Lookup _ _ _) (sym c.refused2.ensures) (a c.before.enum-told2.given.1)
 

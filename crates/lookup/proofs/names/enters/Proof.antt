@@ -1,13 +1,13 @@
 -- The path goes on with a slash and a name that is not empty; the node has that name or another.
 use borrow.Author.Tests.{not-true, not-false}
-use Rattle.devicetree.proofs.Deciding.{refuted, said-yes, said-no}
-use Rattle.lookup.proofs.PathLaws.{enters-ended, enters-empty, enters-other, enters-found}
+use Rattle.devicetree.proofs.Deciding.{refuted, said_yes, said_no}
+use Rattle.lookup.proofs.PathLaws.{enters_ended, enters_empty, enters_other, enters_found}
 use borrow.Author.Rules.{rules}
 use Rattle.lookup.proofs.names.enters.Statement.{statement}
 use Rattle.lookup.proofs.names.enters.Tie as tie
 
 returns : tie.Need-returns
-returns c = refuted (enters-ended c.if1.true)
+returns c = refuted (enters_ended c.if1.true)
 
 shared-slice-read-if2 : tie.Need-shared-slice-read-if2
 shared-slice-read-if2 c = search rules
@@ -19,7 +19,7 @@ part-end-requires : tie.Need-part-end-requires
 part-end-requires c κs = search rules
 
 returns-3 : tie.Need-returns-3
-returns-3 c = refuted (enters-empty c.before.part-end.ensures c.if3.true)
+returns-3 c = refuted (enters_empty c.before.part-end.ensures c.if3.true)
 
 sub-named : tie.Need-overflow-sub-named
 sub-named c = search rules
@@ -36,13 +36,13 @@ named-requires c κs = search rules
 returns-4 : tie.Need-returns-4
 returns-4 c =
     let k₁ = c.before.before.before.before in
-    refuted (enters-other k₁.part-end.ensures (said-no c.before.named.ensures (not-true _ c.if4.true)))
+    refuted (enters_other k₁.part-end.ensures (said_no c.before.named.ensures (not-true _ c.if4.true)))
 
 returns-5 : tie.Need-returns-5
 returns-5 c =
     let k₁ = c.before.before.before.before in
-    let n = said-yes c.before.named.ensures (not-false _ c.if4.false) in
-    enters-found k₁.part-end.ensures k₁.before.if2.false c.before.before.before.if3.false n
+    let n = said_yes c.before.named.ensures (not-false _ c.if4.false) in
+    enters_found k₁.part-end.ensures k₁.before.if2.false c.before.before.before.if3.false n
 
 pub enters-spec : {M : Type 1} → statement M
 enters-spec =

@@ -1,7 +1,7 @@
 -- The name ends at the first zero byte; then the bytes up to it are compared.
 use Rattle.devicetree.specs.Decided.{no}
 use Rattle.devicetree.proofs.Deciding.{holds}
-use Rattle.lookup.proofs.PathLaws.{unnamed, named-same}
+use Rattle.lookup.proofs.PathLaws.{unnamed, named_same}
 use borrow.Author.Rules.{rules}
 use Rattle.lookup.proofs.names.named.Statement.{statement}
 use Rattle.lookup.proofs.names.named.Tie as tie
@@ -39,7 +39,7 @@ same-requires : tie.Need-same-requires
 same-requires c κs = search rules
 
 returns-2 : tie.Need-returns-2
-returns-2 c = named-same c.before.before.before.before.before.first-zero.ensures c.before.before.before.z.given.1 c.same.ensures
+returns-2 c = named_same c.before.before.before.before.before.first-zero.ensures c.before.before.before.z.given.1 c.same.ensures
 
 pub named-spec : {M : Type 1} → statement M
 named-spec =

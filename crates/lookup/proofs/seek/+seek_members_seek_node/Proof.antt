@@ -7,32 +7,32 @@ use lib.ListN.{length}
 use borrow.Fn.Kinds.{In}
 use borrow.Fn.PlainCycle.{Measures, is, falls, and}
 use borrow.Author.Rules.{rules}
-use Rattle.devicetree.proofs.Deciding.{holds, said-yes, said-no}
+use Rattle.devicetree.proofs.Deciding.{holds, said_yes, said_no}
 use Rattle.devicetree.proofs.TokenLaws.{stands-bounds}
 use Rattle.devicetree.proofs.PartLaws.{name-bounds, value-bounds}
-use Rattle.devicetree.proofs.NodeLaws.{node-none, node-unnamed, members-none}
+use Rattle.devicetree.proofs.NodeLaws.{node-none, node-unnamed, members_none}
 use Rattle.lookup.proofs.PathLaws.{part-behind}
-use Rattle.lookup.proofs.BehindLaws.{nowhere-none, stops-no-value}
+use Rattle.lookup.proofs.BehindLaws.{nowhere_none, stops-no-value}
 use Rattle.lookup.proofs.SeekLaws.{
   Goes,
-  goes-start,
+  goes_start,
   goes_on,
   stops-answered,
-  seeks-broken,
-  seeks-found,
-  seeks-after,
+  seeks_broken,
+  seeks_found,
+  seeks_after,
   answered-close,
-  steps-property,
+  steps_property,
   answered-property,
-  steps-node,
+  steps_node,
   answered-node,
   broken-node,
   no_more,
-  wanted-here,
+  wanted_here,
   unwanted,
-  seeks-none,
-  seeks-passed,
-  seeks-entered,
+  seeks_none,
+  seeks_passed,
+  seeks_entered,
 }
 use Rattle.lookup.proofs.seek.seek_members.Reads as seek-members
 use Rattle.lookup.proofs.seek.seek_members.Kinds as members-kinds
@@ -101,7 +101,7 @@ abbrev decreases-loop : members-lts.decreases-loop
 decreases-loop s t at depth path name p₀ p = length s - p
 
 loop-holds : (t : ℕ) → members-lts.Need-loop-init (members-claims t) (members-at t) seek-members.Post invariant-loop decreases-loop
-loop-holds t c = (omega arith, search rules, goes-start)
+loop-holds t c = (omega arith, search rules, goes_start)
 
 next-token-requires : (t : ℕ) → members-lts.Need-next-token-requires (members-claims t) (members-at t) seek-members.Post invariant-loop decreases-loop
 next-token-requires t c κs = search rules
@@ -114,8 +114,8 @@ enum_told t c = search rules
 
 returns : (t : ℕ) → members-lts.Need-returns (members-claims t) (members-at t) seek-members.Post invariant-loop decreases-loop
 returns t c =
-    seeks-broken c.before.before.before.loop.invariant.2
-    (stops-answered (λ t f n m. members-none c.before.before.next-token.ensures c.enum_told.given.1 n m))
+    seeks_broken c.before.before.before.loop.invariant.2
+    (stops-answered (λ t f n m. members_none c.before.before.next-token.ensures c.enum_told.given.1 n m))
 
 returns-2 : (t : ℕ) → members-lts.Need-returns-2 (members-claims t) (members-at t) seek-members.Post invariant-loop decreases-loop
 returns-2 t c =
@@ -124,7 +124,7 @@ returns-2 t c =
     let q = k.before.kind.given.1 in
     let g = k.before.before.before.before.loop.invariant in
     let b = stands-bounds T q in
-    seeks-after g.2 (omega arith) b.1 (answered-close T q c.if1.true)
+    seeks_after g.2 (omega arith) b.1 (answered-close T q c.if1.true)
 
 seek-node-requires : (t : ℕ) → members-lts.Need-seek-node-requires (members-claims t) (members-at t) seek-members.Post invariant-loop decreases-loop
 seek-node-requires t c κs =
@@ -145,7 +145,7 @@ returns-3 t c =
     let g = k.before.before.before.before.loop.invariant in
     let N = c.before.before.before.seek-node.ensures in
     let f = c.before.o.given.1 in
-    seeks-found g.2 (N.named _ _ f) (answered-node T q c.before.before.before.before.if2.true N f)
+    seeks_found g.2 (N.named _ _ f) (answered-node T q c.before.before.before.before.if2.true N f)
 
 enum-known-m : (t : ℕ) → members-lts.Need-enum-known-m (members-claims t) (members-at t) seek-members.Post invariant-loop decreases-loop
 enum-known-m t c = search rules
@@ -167,7 +167,7 @@ loop-again t c =
     let g = k.before.before.before.before.loop.invariant in
     let b = stands-bounds T q in
     let d = c.before.before.before.seek-node.ensures.behind _ c.before.m.given.1 in
-    let step = steps-node T q c.before.before.before.before.if2.true c.before.before.before.seek-node.ensures c.before.m.given.1 in
+    let step = steps_node T q c.before.before.before.before.if2.true c.before.before.before.seek-node.ensures c.before.m.given.1 in
     (omega arith, omega arith, goes_on g.2 step)
 
 enum-told-2 : (t : ℕ) → members-lts.Need-enum-told-2 (members-claims t) (members-at t) seek-members.Post invariant-loop decreases-loop
@@ -179,7 +179,7 @@ returns-4 t c =
     let T = k.before.before.before.next-token.ensures in
     let q = k.before.kind.given.1 in
     let g = k.before.before.before.before.loop.invariant in
-    seeks-broken g.2 (broken-node T q c.before.before.before.if2.true c.before.before.seek-node.ensures c.enum-told2.given.1)
+    seeks_broken g.2 (broken-node T q c.before.before.before.if2.true c.before.before.seek-node.ensures c.enum-told2.given.1)
 
 value-requires : (t : ℕ) → members-lts.Need-value-requires (members-claims t) (members-at t) seek-members.Post invariant-loop decreases-loop
 value-requires t c κs =
@@ -203,7 +203,7 @@ returns-5 t c =
     let q = k.before.kind.given.1 in
     let g = k.before.before.before.before.loop.invariant in
     let stops = stops-no-value T q k₁.if1.false c.before.before.before.if2.false c.before.before.value.ensures c.enum-told3.given.1 in
-    seeks-broken g.2 (stops-answered stops)
+    seeks_broken g.2 (stops-answered stops)
 
 is-wanted-requires : (t : ℕ) → members-lts.Need-is-wanted-requires (members-claims t) (members-at t) seek-members.Post invariant-loop decreases-loop
 is-wanted-requires t c κs =
@@ -231,9 +231,9 @@ returns-6 t c =
     let T = k.before.before.before.next-token.ensures in
     let q = k.before.kind.given.1 in
     let g = k.before.before.before.before.loop.invariant in
-    let w = said-yes c.before.before.is-wanted.ensures c.before.if3.true in
-    let a = answered-property T q k₁.before.if1.false k₁.if2.false c.cell.ensures (wanted-here w) in
-    seeks-found g.2 (no_more k₂.args.path.now w.0) a
+    let w = said_yes c.before.before.is-wanted.ensures c.before.if3.true in
+    let a = answered-property T q k₁.before.if1.false k₁.if2.false c.cell.ensures (wanted_here w) in
+    seeks_found g.2 (no_more k₂.args.path.now w.0) a
 
 loop-less-2 : (t : ℕ) → members-lts.Need-loop-smaller-2 (members-claims t) (members-at t) seek-members.Post invariant-loop decreases-loop
 loop-less-2 t c =
@@ -253,8 +253,8 @@ loop-again-2 t c =
     let g = k₂.before.before.before.before.loop.invariant in
     let b = stands-bounds T q in
     let d = value-bounds (holds k₁.value.ensures c.before.before.before.m2.given.1) in
-    let u = said-no c.before.is-wanted.ensures c.if3.false in
-    let step = steps-property T q k₁.before.before.if1.false k₁.before.if2.false k₁.value.ensures c.before.before.before.m2.given.1
+    let u = said_no c.before.is-wanted.ensures c.if3.false in
+    let step = steps_property T q k₁.before.before.if1.false k₁.before.if2.false k₁.value.ensures c.before.before.before.m2.given.1
     (unwanted u) in
     (omega arith, omega arith, goes_on g.2 step)
 
@@ -280,15 +280,15 @@ of-node-enum-told-2 t c = search rules
 
 of-node-returns : (t : ℕ) → node-lts.Need-returns (node-claims t) (node_at t) seek-node.Post
 of-node-returns t c =
-    seeks-none (λ n v. nowhere-none c.before.before.skip-node.ensures c.enum-told2.given.1 v)
+    seeks_none (λ n v. nowhere_none c.before.before.skip-node.ensures c.enum-told2.given.1 v)
 
 of-node-returns-2 : (t : ℕ) → node-lts.Need-returns-2 (node-claims t) (node_at t) seek-node.Post
 of-node-returns-2 t c =
     let k₁ = c.before.before.before.before in
-    seeks-passed k₁.before.before.enters.ensures k₁.enum_told.given.1 c.before.before.before.skip-node.ensures c.before.m.given.1
+    seeks_passed k₁.before.before.enters.ensures k₁.enum_told.given.1 c.before.before.before.skip-node.ensures c.before.m.given.1
 
 of-node-returns-3 : (t : ℕ) → node-lts.Need-returns-3 (node-claims t) (node_at t) seek-node.Post
-of-node-returns-3 t c = seeks-none (λ n v. node-none c.if1.true n v)
+of-node-returns-3 t c = seeks_none (λ n v. node-none c.if1.true n v)
 
 of-node-name-requires : (t : ℕ) → node-lts.Need-name-requires (node-claims t) (node_at t) seek-node.Post
 of-node-name-requires t c κs = search rules
@@ -300,7 +300,7 @@ of-node-enum-told-3 : (t : ℕ) → node-lts.Need-enum-told-3 (node-claims t) (n
 of-node-enum-told-3 t c = search rules
 
 of-node-returns-4 : (t : ℕ) → node-lts.Need-returns-4 (node-claims t) (node_at t) seek-node.Post
-of-node-returns-4 t c = seeks-none (λ n v. node-unnamed c.before.before.name.ensures c.enum-told3.given.1 n v)
+of-node-returns-4 t c = seeks_none (λ n v. node-unnamed c.before.before.name.ensures c.enum-told3.given.1 n v)
 
 of-node-sub-seek-members : (t : ℕ) → node-lts.Need-overflow-sub-seek-members (node-claims t) (node_at t) seek-node.Post
 of-node-sub-seek-members t c = search rules
@@ -336,7 +336,7 @@ of-node-returns-5 t c =
     let d = k₃.args.depth in
     let i : d ≡ suc (d - 1) = omega arith in
     let l = part-behind k₃.args.path.now _ in
-    seeks-entered k₁.name.ensures c.before.before.before.a.given.1 i E l c.seek-members.ensures
+    seeks_entered k₁.name.ensures c.before.before.before.a.given.1 i E l c.seek-members.ensures
 
 pub +seek-members-seek-node-spec : {M : Type 1} → statement M
 +seek-members-seek-node-spec =

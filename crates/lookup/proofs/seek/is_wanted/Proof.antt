@@ -1,6 +1,6 @@
 -- Where the path ends here, the name decides.
 use Rattle.devicetree.specs.Decided.{no}
-use Rattle.lookup.proofs.SeekLaws.{wanted-name-answers}
+use Rattle.lookup.proofs.SeekLaws.{wanted_name-answers}
 use borrow.Author.Rules.{rules}
 use Rattle.lookup.proofs.seek.is_wanted.Statement.{statement}
 use Rattle.lookup.proofs.seek.is_wanted.Tie as tie
@@ -25,7 +25,7 @@ returns-2 c =
     let k₁ = c.before.before.before.before.before.before.before in
     let e = c.before.cell.ensures in
     let E = c.before.before.if1.false in
-    wanted-name-answers k₁.args.s.now k₁.args.at k₁.args.path.now E e c.named.ensures
+    wanted_name-answers k₁.args.s.now k₁.args.at k₁.args.path.now E e c.named.ensures
 
 pub is-wanted-spec : {M : Type 1} → statement M
 is-wanted-spec =

@@ -2,7 +2,7 @@
 use Rattle.devicetree.proofs.Deciding.{holds}
 use Rattle.devicetree.proofs.PartLaws.{name-bounds}
 use Rattle.devicetree.proofs.TreeLaws.{root_none}
-use Rattle.lookup.proofs.SeekLaws.{root-broken, root-unnamed, root-seeks}
+use Rattle.lookup.proofs.SeekLaws.{root-broken, root-unnamed, root_seeks}
 use borrow.Author.Rules.{rules}
 use Rattle.lookup.proofs.seek.seek_root.Statement.{statement}
 use Rattle.lookup.proofs.seek.seek_root.Tie as tie
@@ -44,7 +44,7 @@ returns-3 : tie.Need-returns-3
 returns-3 c =
     let k₁ = c.before.before.before.before in
     let k₂ = k₁.before.before.before.before in
-    root-seeks k₂.next-token.ensures k₁.before.before.n.given.1 k₁.name.ensures c.before.before.a.given.1 c.seek-members.ensures
+    root_seeks k₂.next-token.ensures k₁.before.before.n.given.1 k₁.name.ensures c.before.before.a.given.1 c.seek-members.ensures
 
 pub seek-root-spec : {M : Type 1} → statement M
 seek-root-spec =

@@ -9,18 +9,18 @@ use borrow.Author.Rules.{rules}
 use Rattle.devicetree.proofs.Deciding.{holds}
 use Rattle.devicetree.proofs.TokenLaws.{stands-bounds}
 use Rattle.devicetree.proofs.PartLaws.{name-bounds, value-bounds}
-use Rattle.devicetree.proofs.NodeLaws.{node-none, node-unnamed, members-none}
+use Rattle.devicetree.proofs.NodeLaws.{node-none, node-unnamed, members_none}
 use Rattle.lookup.proofs.BehindLaws.{
   Goes,
-  goes-start,
+  goes_start,
   skip-none,
   skip-named,
   behind-none,
   behind-close,
   stops-node,
-  goes-node,
+  goes_node,
   stops-no-value,
-  goes-value,
+  goes_value,
 }
 use Rattle.lookup.proofs.skip.skip_members.Reads as skip-members
 use Rattle.lookup.proofs.skip.skip_members.Kinds as members-kinds
@@ -66,7 +66,7 @@ abbrev decreases-loop : members-lts.decreases-loop
 decreases-loop s at depth p₀ p = length s - p
 
 loop-holds : (t : ℕ) → members-lts.Need-loop-init (members-claims t) (members-at t) skip-members.Post invariant-loop decreases-loop
-loop-holds t c = (omega arith, search rules, goes-start)
+loop-holds t c = (omega arith, search rules, goes_start)
 
 next-token-requires : (t : ℕ) → members-lts.Need-next-token-requires (members-claims t) (members-at t) skip-members.Post invariant-loop decreases-loop
 next-token-requires t c κs = search rules
@@ -79,7 +79,7 @@ enum_told t c = search rules
 
 returns : (t : ℕ) → members-lts.Need-returns (members-claims t) (members-at t) skip-members.Post invariant-loop decreases-loop
 returns t c =
-    behind-none c.before.before.before.loop.invariant.2 (λ t f n m. members-none c.before.before.next-token.ensures c.enum_told.given.1 n m)
+    behind-none c.before.before.before.loop.invariant.2 (λ t f n m. members_none c.before.before.next-token.ensures c.enum_told.given.1 n m)
 
 returns-2 : (t : ℕ) → members-lts.Need-returns-2 (members-claims t) (members-at t) skip-members.Post invariant-loop decreases-loop
 returns-2 t c =
@@ -129,7 +129,7 @@ loop-again t c =
     let g = k.before.before.before.before.loop.invariant in
     let b = stands-bounds T q in
     let d = c.before.before.before.skip-node.ensures.bounds _ c.before.m.given.1 in
-    (omega arith, omega arith, goes-node T q k₁.if2.true c.before.before.before.skip-node.ensures g.2 c.before.m.given.1)
+    (omega arith, omega arith, goes_node T q k₁.if2.true c.before.before.before.skip-node.ensures g.2 c.before.m.given.1)
 
 value-requires : (t : ℕ) → members-lts.Need-value-requires (members-claims t) (members-at t) skip-members.Post invariant-loop decreases-loop
 value-requires t c κs =
@@ -173,7 +173,7 @@ loop-again-2 t c =
     let g = k.before.before.before.before.loop.invariant in
     let b = stands-bounds T q in
     let d = value-bounds (holds c.before.before.before.value.ensures c.before.m2.given.1) in
-    let on = goes-value T q k₁.before.if1.false k₁.if2.false c.before.before.before.value.ensures in
+    let on = goes_value T q k₁.before.if1.false k₁.if2.false c.before.before.before.value.ensures in
     (omega arith, omega arith, on g.2 c.before.m2.given.1)
 
 -- ---- a node

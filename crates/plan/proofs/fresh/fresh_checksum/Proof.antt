@@ -1,6 +1,6 @@
 -- The exclusive or of all used bytes and byte 4 is that of the others.
 use borrow.Author.Rules.{rules}
-use Rattle.plan.proofs.Afresh.{fresh-summed, fresh-unsummed}
+use Rattle.plan.proofs.Afresh.{fresh_summed, fresh_unsummed}
 use Rattle.plan.proofs.fresh.fresh_checksum.Statement.{statement}
 use Rattle.plan.proofs.fresh.fresh_checksum.Tie as tie
 
@@ -15,12 +15,12 @@ returns c =
     let s = c.before.before.before.before.before in
     let p = s.requires in
     rw c.before.xor-part.ensures
-    (fresh-summed s.args.a.now s.args.h.flags p.0 s.args.used p.1 p.2 p.3 c.before.before.if1.true)
+    (fresh_summed s.args.a.now s.args.h.flags p.0 s.args.used p.1 p.2 p.3 c.before.before.if1.true)
 
 returns-2 : tie.Need-returns-2
 returns-2 c =
     let s = c.before.before.before in
-    fresh-unsummed s.args.a.now s.args.h.flags s.requires.0 c.if1.false
+    fresh_unsummed s.args.a.now s.args.h.flags s.requires.0 c.if1.false
 
 pub fresh-checksum-spec : {M : Type 1} → statement M
 fresh-checksum-spec =

@@ -1,6 +1,6 @@
 -- The smaller of the two lengths is the one that the test picks; a void's header covers 8 bytes at most.
 use native.Mathlib.Omega.{arith}
-use Rattle.plan.proofs.Laws.{headerSpan-le}
+use Rattle.plan.proofs.Laws.{header_span_le}
 use borrow.Author.Rules.{rules}
 use Rattle.plan.proofs.sum.old_length.Statement.{statement}
 use Rattle.plan.proofs.sum.old_length.Tie as tie
@@ -18,7 +18,7 @@ header-span-requires : tie.Need-header-span-requires
 header-span-requires c κs = search rules
 
 add-len-4 : tie.Need-overflow-add-len-4
-add-len-4 c = omega (arith, (headerSpan-le c.before.before.before.args.p.behind).1)
+add-len-4 c = omega (arith, (header_span_le c.before.before.before.args.p.behind).1)
 
 sub-left : tie.Need-overflow-sub-left
 sub-left c = search rules

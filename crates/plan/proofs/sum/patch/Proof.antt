@@ -5,8 +5,8 @@ use native.Mathlib.Omega.{arith}
 use mathlib.Core.List.{List}
 use lib.ListN.{length, take, drop}
 use Rattle.wire.specs.Bytes.{xor}
-use Rattle.plan.specs.Plan.{stretchOf}
-use Rattle.plan.proofs.Laws.{length-stretchOf, old-part}
+use Rattle.plan.specs.Plan.{stretch_of}
+use Rattle.plan.proofs.Laws.{length-stretch_of, old-part}
 use borrow.Author.Rules.{rules}
 use Rattle.plan.proofs.sum.patch.Statement.{statement}
 use Rattle.plan.proofs.sum.patch.Tie as tie
@@ -38,8 +38,8 @@ returns c =
     let s : List ℕ = start.args.«data».now in
     let u : ℕ = start.args.h.used_size in
     let a : List ℕ = start.args.a.now in
-    let new : List ℕ = stretchOf p s in
-    let n = o.old-length.ensures ∙ ap (λ (k : ℕ). min k (u - p.at)) (sym (length-stretchOf p s start.requires.2.padding)) in
+    let new : List ℕ = stretch_of p s in
+    let n = o.old-length.ensures ∙ ap (λ (k : ℕ). min k (u - p.at)) (sym (length-stretch_of p s start.requires.2.padding)) in
     let old : x.xor-part.result ≡ xor (take (length new) (drop p.at (take u a))) =
     x.xor-part.ensures
     ∙ ap (λ (k : ℕ). xor (take k (drop p.at a))) n

@@ -4,8 +4,8 @@ use Prim.Native.Nat.{ℕ}
 use lib.Bits.{bit_xor}
 use lib.Seq.{take-length}
 use Rattle.wire.specs.Bytes.{le_bytes, xor}
-use Rattle.laws.proofs.EntryBytes.{entry-word}
-use Rattle.plan.proofs.Laws.{xor-stretchOf}
+use Rattle.laws.proofs.EntryBytes.{entry_word_lem}
+use Rattle.plan.proofs.Laws.{xor-stretch_of}
 use borrow.Author.Rules.{rules}
 use Rattle.plan.proofs.sum.xor_stretch.Statement.{statement}
 use Rattle.plan.proofs.sum.xor_stretch.Tie as tie
@@ -32,11 +32,11 @@ returns c =
     let tag = c.before.before.before.before.before.before.requires.2 in
     let entry =
     c.before.before.xor8.ensures
-    ∙ ap (λ (w : ℕ). xor (le_bytes 8 w)) c.before.before.before.entry-word.ensures
-    ∙ ap xor (entry-word p.tag_id p.data_size tag) in
+    ∙ ap (λ (w : ℕ). xor (le_bytes 8 w)) c.before.before.before.entry_word_lem.ensures
+    ∙ ap xor (entry_word_lem p.tag_id p.data_size tag) in
     let content = c.before.xor-part.ensures ∙ ap xor (take-length a.«data».now) in
     ap₂ bit_xor c.before.before.before.before.xor-void.ensures (ap₂ bit_xor entry (ap₂ bit_xor content c.xor-void2.ensures))
-    ∙ sym (xor-stretchOf p a.«data».now)
+    ∙ sym (xor-stretch_of p a.«data».now)
 
 pub xor-stretch-spec : {M : Type 1} → statement M
 xor-stretch-spec =

@@ -3,7 +3,7 @@ use mathlib.Core.Path.{sym, ap, ◌∙◌}
 use Prim.Native.Nat.{ℕ, ◌-◌}
 use native.Mathlib.Omega.{arith}
 use Rattle.wire.specs.Bytes.{le_bytes, xor}
-use Rattle.laws.proofs.EntryBytes.{entry-word}
+use Rattle.laws.proofs.EntryBytes.{entry_word_lem}
 use Rattle.plan.proofs.Laws.{no_header, some-header}
 use borrow.Author.Rules.{rules}
 use Rattle.plan.proofs.sum.xor_void.Statement.{statement}
@@ -26,8 +26,8 @@ returns-2 : tie.Need-returns-2
 returns-2 c =
     let n : ℕ = c.before.before.before.args.n in
     c.xor8.ensures
-    ∙ ap (λ (w : ℕ). xor (le_bytes 8 w)) c.before.entry-word.ensures
-    ∙ ap xor (entry-word 0 (n - 8) (omega arith) ∙ sym (some-header n (omega arith)))
+    ∙ ap (λ (w : ℕ). xor (le_bytes 8 w)) c.before.entry_word_lem.ensures
+    ∙ ap xor (entry_word_lem 0 (n - 8) (omega arith) ∙ sym (some-header n (omega arith)))
 
 pub xor-void-spec : {M : Type 1} → statement M
 xor-void-spec =

@@ -1,6 +1,6 @@
 -- A refusal is answered and leaves the bytes; a plan is written, and leaves the bytes that it comes to.
 use mathlib.Core.Path.{subst}
-use Rattle.plan.specs.Plan.{outcomeOf, CanWrite}
+use Rattle.plan.specs.Plan.{outcome_of, CanWrite}
 use borrow.Author.Rules.{rules}
 use Rattle.plan.proofs.write.carry_out.Statement.{statement}
 use Rattle.plan.proofs.write.carry_out.Tie as tie
@@ -15,7 +15,7 @@ refusal-requires : tie.Need-refusal-requires
 refusal-requires c κs = search rules
 
 returns : tie.Need-returns
-unfolding outcomeOf
+unfolding outcome_of
 returns c =
     let k = c.before.enum_told.given.1 in
     (simp (c.refusal.ensures, k), simp k)
@@ -29,7 +29,7 @@ same_length : tie.Need-same-length
 same_length c = search rules
 
 returns-2 : tie.Need-returns-2
-unfolding outcomeOf
+unfolding outcome_of
 returns-2 c =
     let w = c.before.before in
     let k = w.before.before.before.planned.given.1 in

@@ -6,8 +6,8 @@ use mathlib.Core.List.{List, ◌++◌}
 use lib.ListN.{length, replicate}
 use Rattle.wire.specs.Bytes.{le_bytes, splice}
 use Rattle.wire.proofs.Splice.{splice-append}
-use Rattle.rules.specs.Entries.{entryHeader}
-use Rattle.laws.proofs.EntryBytes.{entry-word, length-entryHeader}
+use Rattle.rules.specs.Entries.{entry_header}
+use Rattle.laws.proofs.EntryBytes.{entry_word_lem, length-entry_header}
 use borrow.Author.Rules.{rules}
 use Rattle.plan.proofs.write.write_entry.Statement.{statement}
 use Rattle.plan.proofs.write.write_entry.Tie as tie
@@ -42,11 +42,11 @@ returns c =
     let a = start.args in
     let l : List ℕ = a.a.now in
     let s : List ℕ = a.«data».now in
-    let h : List ℕ = entryHeader a.tag a.size in
+    let h : List ℕ = entry_header a.tag a.size in
     let zeros : List ℕ = replicate a.zeros 0 in
-    let word = ap (le_bytes 8) w.before.entry-word.ensures ∙ entry-word a.tag a.size start.requires.1 in
+    let word = ap (le_bytes 8) w.before.entry_word_lem.ensures ∙ entry_word_lem a.tag a.size start.requires.1 in
     let header : w.write8.new.0 ≡ splice l a.at h = w.write8.ensures ∙ ap (splice l a.at) word in
-    let k : length h ≡ 8 = length-entryHeader a.tag a.size in
+    let k : length h ≡ 8 = length-entry_header a.tag a.size in
     z.zero-part.ensures
     ∙ ap (λ (x : List ℕ). splice x (a.at + 8 + length s) zeros) d.copy-part.ensures
     ∙ splice-append w.write8.new.0 (a.at + 8) s zeros (omega arith)

@@ -6,7 +6,7 @@ use mathlib.Core.List.{List}
 use lib.ListN.{length, set, length-set}
 use Rattle.wire.specs.Bytes.{le_bytes, splice}
 use Rattle.wire.proofs.Splice.{splice-set}
-use Rattle.plan.specs.Plan.{fieldsAfter}
+use Rattle.plan.specs.Plan.{fields_after}
 use borrow.Author.Rules.{rules}
 use Rattle.plan.proofs.write.write_fields.Statement.{statement}
 use Rattle.plan.proofs.write.write_fields.Tie as tie
@@ -24,7 +24,7 @@ same_length : tie.Need-same-length
 same_length c = c.before.before.write4.auto.0 ∙ simp length-set
 
 returns : tie.Need-returns
-unfolding fieldsAfter le_bytes
+unfolding fields_after le_bytes
 returns c =
     let start = c.before.before.before.before.before in
     let a : List ℕ = start.args.a.now in

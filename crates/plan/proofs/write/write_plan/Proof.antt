@@ -6,10 +6,10 @@ use mathlib.Core.List.{List, ◌++◌, append_assoc}
 use lib.ListN.{length, replicate, length-append, length-replicate}
 use Rattle.wire.specs.Bytes.{splice}
 use Rattle.wire.proofs.Splice.{splice-append}
-use Rattle.rules.specs.Entries.{entryHeader}
-use Rattle.laws.proofs.EntryBytes.{length-entryHeader}
-use Rattle.plan.specs.Plan.{wholeVoid, voidHeader, stretchOf, after}
-use Rattle.plan.proofs.Laws.{length-wholeVoid}
+use Rattle.rules.specs.Entries.{entry_header}
+use Rattle.laws.proofs.EntryBytes.{length-entry_header}
+use Rattle.plan.specs.Plan.{whole_void, void_header, stretch_of, after}
+use Rattle.plan.proofs.Laws.{length-whole_void}
 use borrow.Author.Rules.{rules}
 use Rattle.plan.proofs.write.write_plan.Statement.{statement}
 use Rattle.plan.proofs.write.write_plan.Tie as tie
@@ -53,7 +53,7 @@ abbrev F : tie.After-write-fields → tie.Start
 F c = c.before.before.before.before.before.before
 
 returns : tie.Need-returns
-unfolding after stretchOf
+unfolding after stretch_of
 returns c =
     let h = c.before.before in
     let e = h.before.before.before.before in
@@ -61,17 +61,17 @@ returns c =
     let f = v.before.before.before.before in
     let p = (F f).args.p in
     let s : List ℕ = (F f).args.«data».now in
-    let void : List ℕ = wholeVoid p.padding in
-    let entry : List ℕ = entryHeader p.tag_id p.data_size ++ (s ++ replicate p.zeros 0) in
+    let void : List ℕ = whole_void p.padding in
+    let entry : List ℕ = entry_header p.tag_id p.data_size ++ (s ++ replicate p.zeros 0) in
     let end : ℕ = p.at + p.padding + 8 + length s + p.zeros in
-    let lv : length void ≡ p.padding = length-wholeVoid p.padding ∙ sym (F f).requires.padding in
-    let le : length entry ≡ 8 + (length s + p.zeros) = simp (length-append, length-entryHeader, length-replicate) in
+    let lv : length void ≡ p.padding = length-whole_void p.padding ∙ sym (F f).requires.padding in
+    let le : length entry ≡ 8 + (length s + p.zeros) = simp (length-append, length-entry_header, length-replicate) in
     let k : p.at ≤ length f.write-fields.new.0 = omega (arith, f.write-fields.auto.0, (F f).requires) in
     h.write-void-header.ensures
-    ∙ ap (λ (x : List ℕ). splice x end (voidHeader p.behind))
+    ∙ ap (λ (x : List ℕ). splice x end (void_header p.behind))
     (e.write-entry.ensures ∙ ap (λ (x : List ℕ). splice x (p.at + p.padding) entry) v.write-void.ensures)
-    ∙ pieces f.write-fields.new.0 p.at void entry (voidHeader p.behind) (p.at + p.padding) end k (omega arith) (omega arith)
-    ∙ ap (λ (x : List ℕ). splice x p.at (void ++ (entry ++ voidHeader p.behind))) f.write-fields.ensures
+    ∙ pieces f.write-fields.new.0 p.at void entry (void_header p.behind) (p.at + p.padding) end k (omega arith) (omega arith)
+    ∙ ap (λ (x : List ℕ). splice x p.at (void ++ (entry ++ void_header p.behind))) f.write-fields.ensures
     ∙ simp append_assoc
 
 pub write-plan-spec : {M : Type 1} → statement M

@@ -6,8 +6,8 @@ use mathlib.Core.List.{List, append-nil}
 use lib.ListN.{length, replicate}
 use Rattle.wire.specs.Bytes.{splice}
 use Rattle.wire.proofs.Splice.{splice-append}
-use Rattle.laws.proofs.EntryBytes.{length-entryHeader}
-use Rattle.plan.specs.Plan.{voidHeader}
+use Rattle.laws.proofs.EntryBytes.{length-entry_header}
+use Rattle.plan.specs.Plan.{void_header}
 use Rattle.plan.proofs.Laws.{some-header, whole-void}
 use borrow.Author.Rules.{rules}
 use Rattle.plan.proofs.write.write_void.Statement.{statement}
@@ -32,9 +32,9 @@ returns : tie.Need-returns
 returns c =
     let a = c.before.before.before.before.before.before.before.before.before.before.args in
     let l : List ℕ = a.a.now in
-    let header : List ℕ = voidHeader a.n in
+    let header : List ℕ = void_header a.n in
     let zeros : List ℕ = replicate (a.n - 8) 0 in
-    let k : length header ≡ 8 = ap length (some-header a.n (omega arith)) ∙ length-entryHeader 0 (a.n - 8) in
+    let k : length header ≡ 8 = ap length (some-header a.n (omega arith)) ∙ length-entry_header 0 (a.n - 8) in
     c.before.before.zero-part.ensures
     ∙ ap (λ (x : List ℕ). splice x (a.at + 8) zeros) c.before.before.before.before.before.before.before.write-void-header.ensures
     ∙ ap (λ (n : ℕ). splice (splice l a.at header) (a.at + n) zeros) (sym k)

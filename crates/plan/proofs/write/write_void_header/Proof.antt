@@ -4,7 +4,7 @@ use Prim.Native.Nat.{ℕ, ◌-◌}
 use native.Mathlib.Omega.{arith}
 use Rattle.wire.specs.Bytes.{le_bytes, splice}
 use Rattle.wire.proofs.Splice.{splice-nil}
-use Rattle.laws.proofs.EntryBytes.{entry-word}
+use Rattle.laws.proofs.EntryBytes.{entry_word_lem}
 use Rattle.plan.proofs.Laws.{no_header, some-header}
 use borrow.Author.Rules.{rules}
 use Rattle.plan.proofs.write.write_void_header.Statement.{statement}
@@ -31,8 +31,8 @@ returns-2 : tie.Need-returns-2
 returns-2 c =
     let a = c.before.before.before.before.before.before.before.args in
     c.before.before.write8.ensures
-    ∙ ap (λ (w : ℕ). splice a.a.now a.at (le_bytes 8 w)) c.before.before.before.entry-word.ensures
-    ∙ ap (splice a.a.now a.at) (entry-word 0 (a.n - 8) (omega arith) ∙ sym (some-header a.n (omega arith)))
+    ∙ ap (λ (w : ℕ). splice a.a.now a.at (le_bytes 8 w)) c.before.before.before.entry_word_lem.ensures
+    ∙ ap (splice a.a.now a.at) (entry_word_lem 0 (a.n - 8) (omega arith) ∙ sym (some-header a.n (omega arith)))
 
 pub write-void-header-spec : {M : Type 1} → statement M
 write-void-header-spec =

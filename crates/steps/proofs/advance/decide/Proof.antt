@@ -10,14 +10,14 @@ word-step-requires c κs = search rules
 
 returns : tie.Need-returns
 unfolding step_of
-returns c = simp (eq-eqb _ 0 c.before.if1.true, c.word-step.ensures)
+returns c = simp (eq-eqb _ 0 c.before.if1.true, c.word_step_lem.ensures)
 
 commit-step-requires : tie.Need-commit-step-requires
 commit-step-requires c κs = search rules
 
 returns-2 : tie.Need-returns-2
 unfolding step_of
-returns-2 c = simp (ne_eqb _ 0 c.before.before.if1.false, eq-eqb _ 1 c.before.if2.true, c.commit-step.ensures)
+returns-2 c = simp (ne_eqb _ 0 c.before.before.if1.false, eq-eqb _ 1 c.before.if2.true, c.commit_step_lem.ensures)
 
 apply-step-requires : tie.Need-apply-step-requires
 apply-step-requires c κs = search rules
@@ -26,7 +26,7 @@ returns-3 : tie.Need-returns-3
 unfolding step_of
 returns-3 c =
     let t = c.before.before in
-    simp (ne_eqb _ 0 t.before.if1.false, ne_eqb _ 1 t.if2.false, eq-eqb _ 2 c.before.if3.true, c.apply-step.ensures)
+    simp (ne_eqb _ 0 t.before.if1.false, ne_eqb _ 1 t.if2.false, eq-eqb _ 2 c.before.if3.true, c.apply_step_lem.ensures)
 
 clear-step-requires : tie.Need-clear-step-requires
 clear-step-requires c κs = search rules

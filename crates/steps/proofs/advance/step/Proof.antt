@@ -1,5 +1,5 @@
 -- The step that was decided, and its store carried out.
-use Rattle.journal.specs.Journal.{memory, storeAll}
+use Rattle.journal.specs.Journal.{memory, store_all}
 use Rattle.steps.specs.Steps.{stored, report}
 use Rattle.steps.specs.declared.Step.{Step}
 use mathlib.Core.Path.{ap, ◌∙◌}
@@ -28,7 +28,7 @@ returns c =
     let d = s.before.before.before.before.decide.ensures in
     let a = s.before.before.before.before.before.before.before.before.before.before.args in (
       c.report.ensures ∙ ap (λ (x : Step). report x.next) d,
-      s.carry-out.ensures ∙ ap (λ (x : Step). storeAll (stored x.store) (memory a.journal.now a.area.now)) d,
+      s.carry-out.ensures ∙ ap (λ (x : Step). store_all (stored x.store) (memory a.journal.now a.area.now)) d,
     )
 
 pub step_spec : {M : Type 1} → statement M

@@ -1,12 +1,12 @@
 -- The definition, by the same test; the first word is the search's.
 use mathlib.Core.Bool.{true≢false}
-use Rattle.steps.proofs.Power.{edit-survives}
+use Rattle.steps.proofs.Power.{edit_survives}
 use Rattle.steps.specs.declared.Steps.{Steps}
 use Prim.Native.Nat.{◌<◌}
 use Rattle.journal.specs.Journal.{memory}
 use Rattle.plan.specs.Plan.{after}
-use Rattle.steps.proofs.Decision.{edit-begins}
-use Rattle.steps.specs.Steps.{editStart}
+use Rattle.steps.proofs.Decision.{edit_begins}
+use Rattle.steps.specs.Steps.{edit_start}
 use mathlib.Core.Path.{sym, ◌∙◌, subst}
 use borrow.Author.Rules.{rules}
 use Rattle.steps.proofs.begin.edit_start.Statement.{statement}
@@ -22,7 +22,7 @@ stopped-requires : tie.Need-stopped-requires
 stopped-requires c κs = search rules
 
 returns : tie.Need-returns
-unfolding editStart
+unfolding edit_start
 returns c =
     let t = c.before.before in
     let e = sym t.before.refuses-journal.ensures ∙ t.if1.true in
@@ -45,10 +45,10 @@ returns-2 c =
     let s = c.before.before.carrying.ensures in
     let bytes = subst (λ (x : Steps). (x.checksum < 256) × (x.alignment < 256)) s.0 s.1 in
     let e = c.to_word.ensures
-    ∙ edit-begins a.p new (memory a.journal.now a.area.now) _ _ (sym t.before.refuses-journal.ensures ∙ t.if1.false) s.0
+    ∙ edit_begins a.p new (memory a.journal.now a.area.now) _ _ (sym t.before.refuses-journal.ensures ∙ t.if1.false) s.0
     c.before.next-changed.ensures in
     let w = t.before.before.before.before.before.requires in
-    (e, λ k. rw e (edit-survives a.p a.«data».now a.journal.now a.area.now w bytes.0 bytes.1 k))
+    (e, λ k. rw e (edit_survives a.p a.«data».now a.journal.now a.area.now w bytes.0 bytes.1 k))
 
 pub edit-start-spec : {M : Type 1} → statement M
 edit-start-spec =

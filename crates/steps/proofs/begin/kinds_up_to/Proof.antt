@@ -1,6 +1,6 @@
 -- From the last record to the first: each turn adds one record in front.
-use Rattle.steps.proofs.Decision.{none-high, kinds-back, kinds-all}
-use Rattle.journal.specs.Journal.{kindsUpTo}
+use Rattle.steps.proofs.Decision.{none_high, kinds_back, kinds_all}
+use Rattle.journal.specs.Journal.{kinds_up_to}
 use lib.ListN.{length}
 use Prim.Native.Nat.{◌-◌, ◌/◌, ◌≤◌}
 use mathlib.Core.Path.{◌≡◌}
@@ -9,13 +9,13 @@ use Rattle.steps.proofs.begin.kinds_up_to.Statement.{statement}
 use Rattle.steps.proofs.begin.kinds_up_to.Tie as tie
 
 abbrev invariant-loop : tie.invariant-loop
-invariant-loop most journal low₀ i₀ low i = (i ≤ length journal / 16) × (low ≡ kindsUpTo most (length journal / 16 - i) journal i)
+invariant-loop most journal low₀ i₀ low i = (i ≤ length journal / 16) × (low ≡ kinds_up_to most (length journal / 16 - i) journal i)
 
 abbrev decreases-loop : tie.decreases-loop
 decreases-loop most journal low₀ i₀ low i = i
 
 loop-holds : tie.Need-loop-init invariant-loop decreases-loop
-loop-holds c = let a = c.args in (omega arith, none-high a.most (length a.journal.now / 16) _ a.journal.now)
+loop-holds c = let a = c.args in (omega arith, none_high a.most (length a.journal.now / 16) _ a.journal.now)
 
 sub-i : tie.Need-overflow-sub-i invariant-loop decreases-loop
 sub-i c = omega arith
@@ -33,13 +33,13 @@ loop-again : tie.Need-loop-preserved invariant-loop decreases-loop
 loop-again c =
     let l = c.before.before.loop in
     let a = c.before.before.before.args in
-    (omega arith, kinds-back a.most (length a.journal.now / 16) l.i l.low a.journal.now (omega arith) (omega arith) l.invariant.1)
+    (omega arith, kinds_back a.most (length a.journal.now / 16) l.i l.low a.journal.now (omega arith) (omega arith) l.invariant.1)
 
 returns : tie.Need-returns invariant-loop decreases-loop
 returns c =
     let l = c.before.loop in
     let a = c.before.before.args in
-    kinds-all a.most (length a.journal.now / 16) l.i l.low a.journal.now (omega arith) l.invariant.1
+    kinds_all a.most (length a.journal.now / 16) l.i l.low a.journal.now (omega arith) l.invariant.1
 
 pub kinds-up-to-spec : {M : Type 1} → statement M
 kinds-up-to-spec =

@@ -1,7 +1,7 @@
 -- What was read of the journal decides as the rules do.
-use Rattle.steps.proofs.Power.{recovery-goes}
+use Rattle.steps.proofs.Power.{recovery_goes}
 use Rattle.steps.proofs.Decision.{start_is}
-use Rattle.steps.specs.Steps.{recoverStart}
+use Rattle.steps.specs.Steps.{recover_start}
 use Rattle.journal.specs.Journal.{memory}
 use mathlib.Core.Path.{◌≡◌, ◌∙◌}
 use borrow.Author.Rules.{rules}
@@ -25,9 +25,9 @@ returns c =
     let k = c.before.before.before in
     let a = k.before.before.before.args in
     let m = memory a.journal.now a.area.now in
-    let e : c.begin-with.result ≡ recoverStart m = c.begin-with.ensures
+    let e : c.begin-with.result ≡ recover_start m = c.begin-with.ensures
     ∙ rw (k.kinds-up-to.ensures, c.before.before.verdict.ensures, c.before.word_first.ensures) (start_is m) in
-    (e, rw e (recovery-goes m))
+    (e, rw e (recovery_goes m))
 
 pub recover-start-spec : {M : Type 1} → statement M
 recover-start-spec =

@@ -1,5 +1,5 @@
 -- The definition, term for term.
-use Rattle.journal.specs.Journal.{refusesJournal}
+use Rattle.journal.specs.Journal.{refuses_journal}
 use borrow.Author.Rules.{rules}
 use Rattle.steps.proofs.begin.refuses_journal.Statement.{statement}
 use Rattle.steps.proofs.begin.refuses_journal.Tie as tie
@@ -11,7 +11,7 @@ changed-words-requires : tie.Need-changed-words-requires
 changed-words-requires c κs = search rules
 
 returns : tie.Need-returns
-unfolding refusesJournal
+unfolding refuses_journal
 returns c = simp (c.before.kinds-up-to.ensures, c.changed-words.ensures)
 
 pub refuses-journal-spec : {M : Type 1} → statement M

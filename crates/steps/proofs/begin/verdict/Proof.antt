@@ -1,6 +1,6 @@
 -- From the last record to the first: each turn adds one record in front.
-use Rattle.steps.proofs.Decision.{no-verdict, verdict-back, verdict-all}
-use Rattle.steps.specs.Begin.{verdictOf}
+use Rattle.steps.proofs.Decision.{no_verdict, verdict_back, verdict_all}
+use Rattle.steps.specs.Begin.{verdict_of}
 use Rattle.journal.specs.Journal.{pending}
 use lib.ListN.{length}
 use Prim.Native.Nat.{◌-◌, ◌/◌, ◌≤◌}
@@ -10,13 +10,13 @@ use Rattle.steps.proofs.begin.verdict.Statement.{statement}
 use Rattle.steps.proofs.begin.verdict.Tie as tie
 
 abbrev invariant-loop : tie.invariant-loop
-invariant-loop journal len v₀ i₀ v i = (i ≤ length journal / 16) × (v ≡ verdictOf len (pending (length journal / 16 - i) journal i))
+invariant-loop journal len v₀ i₀ v i = (i ≤ length journal / 16) × (v ≡ verdict_of len (pending (length journal / 16 - i) journal i))
 
 abbrev decreases-loop : tie.decreases-loop
 decreases-loop journal len v₀ i₀ v i = i
 
 loop-holds : tie.Need-loop-init invariant-loop decreases-loop
-loop-holds c = let a = c.before.args in (omega arith, no-verdict a.len (length a.journal.now / 16) _ a.journal.now)
+loop-holds c = let a = c.before.args in (omega arith, no_verdict a.len (length a.journal.now / 16) _ a.journal.now)
 
 sub-i : tie.Need-overflow-sub-i invariant-loop decreases-loop
 sub-i c = omega arith
@@ -50,14 +50,14 @@ loop-again c =
     let f = c.before.before in
     let l = f.before.before.before.loop in
     let a = f.before.before.before.before.before.args in
-    let b = verdict-back a.len (length a.journal.now / 16) l.i l.v a.journal.now (omega arith) (omega arith) l.invariant.1 in
+    let b = verdict_back a.len (length a.journal.now / 16) l.i l.v a.journal.now (omega arith) (omega arith) l.invariant.1 in
     (omega arith, rw (c.with-record.ensures, f.fits_in.ensures, f.before.read4.ensures) b)
 
 returns : tie.Need-returns invariant-loop decreases-loop
 returns c =
     let l = c.before.loop in
     let a = c.before.before.before.args in
-    verdict-all a.len (length a.journal.now / 16) l.i l.v a.journal.now (omega arith) l.invariant.1
+    verdict_all a.len (length a.journal.now / 16) l.i l.v a.journal.now (omega arith) l.invariant.1
 
 pub verdict-spec : {M : Type 1} → statement M
 verdict-spec =

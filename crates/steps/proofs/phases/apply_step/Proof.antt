@@ -1,6 +1,6 @@
 -- The definition, by the same tests.
 use borrow.Author.Tests.{lt-ltb, le-ltb, le-leb, lt-leb}
-use Rattle.steps.specs.Steps.{applyStep}
+use Rattle.steps.specs.Steps.{apply_step}
 use borrow.Author.Rules.{rules}
 use Rattle.steps.proofs.phases.apply_step.Statement.{statement}
 use Rattle.steps.proofs.phases.apply_step.Tie as tie
@@ -12,14 +12,14 @@ refuse-requires : tie.Need-refuse-requires
 refuse-requires c κs = search rules
 
 returns : tie.Need-returns
-unfolding applyStep
+unfolding apply_step
 returns c = simp (le-ltb _ _ c.before.if1.true, c.refuse.ensures)
 
 refuse-requires-2 : tie.Need-refuse-requires-2
 refuse-requires-2 c κs = search rules
 
 returns-2 : tie.Need-returns-2
-unfolding applyStep
+unfolding apply_step
 returns-2 c = simp (lt-ltb _ _ c.before.before.if1.false, le-ltb _ _ c.before.if2.true, c.refuse2.ensures)
 
 mul-read4 : tie.Need-overflow-mul-read4
@@ -41,7 +41,7 @@ refuse-requires-3 : tie.Need-refuse-requires-3
 refuse-requires-3 c κs = search rules
 
 returns-3 : tie.Need-returns-3
-unfolding applyStep
+unfolding apply_step
 returns-3 c =
     let t = c.before.before in
     simp (
@@ -71,7 +71,7 @@ after-apply-requires : tie.Need-after-apply-requires
 after-apply-requires c κs = search rules
 
 returns-4 : tie.Need-returns-4
-unfolding applyStep
+unfolding apply_step
 returns-4 c =
     let t = c.before.before.before in
     simp (

@@ -1,6 +1,6 @@
 -- The definition, by the same tests.
 use borrow.Author.Tests.{lt-ltb, le-ltb}
-use Rattle.steps.specs.Steps.{commitStep}
+use Rattle.steps.specs.Steps.{commit_step}
 use borrow.Author.Rules.{rules}
 use Rattle.steps.proofs.phases.commit_step.Statement.{statement}
 use Rattle.steps.proofs.phases.commit_step.Tie as tie
@@ -9,14 +9,14 @@ refuse-requires : tie.Need-refuse-requires
 refuse-requires c κs = search rules
 
 returns : tie.Need-returns
-unfolding commitStep
+unfolding commit_step
 returns c = simp (le-ltb _ _ c.before.if1.true, c.refuse.ensures)
 
 refuse-requires-2 : tie.Need-refuse-requires-2
 refuse-requires-2 c κs = search rules
 
 returns-2 : tie.Need-returns-2
-unfolding commitStep
+unfolding commit_step
 returns-2 c = simp (lt-ltb _ _ c.before.before.if1.false, le-ltb _ _ c.before.if2.true, c.refuse2.ensures)
 
 mul-t5 : tie.Need-overflow-mul-t5
@@ -38,7 +38,7 @@ after-commit-requires : tie.Need-after-commit-requires
 after-commit-requires c κs = search rules
 
 returns-3 : tie.Need-returns-3
-unfolding commitStep
+unfolding commit_step
 returns-3 c =
     let t = c.before.before.before in
     simp (

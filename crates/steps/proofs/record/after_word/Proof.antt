@@ -1,5 +1,5 @@
 -- The definition, by the same test; the next word is the search's.
-use Rattle.steps.specs.Steps.{afterWord}
+use Rattle.steps.specs.Steps.{after_word}
 use borrow.Author.Tests.{lt-ltb, le-ltb}
 use borrow.Author.Rules.{rules}
 use Rattle.steps.proofs.record.after_word.Statement.{statement}
@@ -12,7 +12,7 @@ stand-requires : tie.Need-stand-requires
 stand-requires c κs = search rules
 
 returns : tie.Need-returns
-unfolding afterWord
+unfolding after_word
 returns c = simp (lt-ltb _ _ c.before.if1.true, c.stand.ensures)
 
 add-next-changed : tie.Need-overflow-add-next-changed
@@ -28,7 +28,7 @@ to-word-requires : tie.Need-to-word-requires
 to-word-requires c κs = search rules
 
 returns-2 : tie.Need-returns-2
-unfolding afterWord
+unfolding after_word
 returns-2 c = simp (le-ltb _ _ c.before.before.if1.false, ← c.before.next-changed.ensures, c.to_word.ensures)
 
 pub after-word-spec : {M : Type 1} → statement M

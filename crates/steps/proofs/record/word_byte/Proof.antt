@@ -1,6 +1,6 @@
 -- Byte by byte of the record: its kind, three zeros, the offset, the data.
 use Rattle.plan.specs.Plan.{after}
-use Rattle.steps.proofs.Tests.{word-zero, word-offset, word-data}
+use Rattle.steps.proofs.Tests.{word_zero, word_offset, word_data}
 use Rattle.journal.proofs.Words.{get_d_part}
 use Prim.Native.Nat.{◌-◌}
 use native.Mathlib.Omega.{arith}
@@ -13,7 +13,7 @@ returns : tie.Need-returns
 returns c = rw c.if1.true
 
 returns-2 : tie.Need-returns-2
-returns-2 c = sym (word-zero _ _ _ c.before.if1.false (omega arith))
+returns-2 c = sym (word_zero _ _ _ c.before.if1.false (omega arith))
 
 cast-byte-of : tie.Need-overflow-cast-byte-of
 cast-byte-of c = search rules
@@ -22,7 +22,7 @@ byte-of-requires : tie.Need-byte-of-requires
 byte-of-requires c κs = search rules
 
 returns-3 : tie.Need-returns-3
-returns-3 c = c.byte_of.ensures ∙ sym (word-offset _ _ _ (omega arith) (omega arith))
+returns-3 c = c.byte_of.ensures ∙ sym (word_offset _ _ _ (omega arith) (omega arith))
 
 add-byte-after : tie.Need-overflow-add-byte-after
 add-byte-after c = search rules
@@ -34,7 +34,7 @@ returns-4 : tie.Need-returns-4
 returns-4 c =
     let a = c.before.before.before.before.before.before.args in
     let new = after a.p a.area.now a.«data».now in
-    c.byte-after.ensures ∙ sym (word-data a.k a.word _ (omega arith) ∙ get_d_part 8 new a.word (a.k - 8) (omega arith))
+    c.byte-after.ensures ∙ sym (word_data a.k a.word _ (omega arith) ∙ get_d_part 8 new a.word (a.k - 8) (omega arith))
 
 pub word-byte-spec : {M : Type 1} → statement M
 word-byte-spec =

@@ -3,7 +3,7 @@ use Prim.Native.Nat.{◌<◌, ◌^◌}
 use Rattle.words.specs.Words.{Writable}
 use Rattle.plan.specs.declared.Plan.{Plan}
 use Rattle.steps.proofs.Tests.{Can, can}
-use Rattle.steps.specs.Steps.{wordStep}
+use Rattle.steps.specs.Steps.{word_step}
 use borrow.Author.Tests.{lt-ltb, le-ltb, eq-eqb, ne_eqb, not-true, not-false}
 use lib.ListN.{length}
 use native.Mathlib.Omega.{arith}
@@ -16,21 +16,21 @@ refuse-requires : tie.Need-refuse-requires
 refuse-requires c κs = search rules
 
 returns : tie.Need-returns
-unfolding wordStep
+unfolding word_step
 returns c = simp (le-ltb _ _ c.before.if1.true, c.refuse.ensures)
 
 refuse-requires-2 : tie.Need-refuse-requires-2
 refuse-requires-2 c κs = search rules
 
 returns-2 : tie.Need-returns-2
-unfolding wordStep
+unfolding word_step
 returns-2 c = simp (lt-ltb _ _ c.before.before.if1.false, le-ltb _ _ c.before.if2.true, c.refuse2.ensures)
 
 refuse-requires-3 : tie.Need-refuse-requires-3
 refuse-requires-3 c κs = search rules
 
 returns-3 : tie.Need-returns-3
-unfolding wordStep
+unfolding word_step
 returns-3 c =
     let t = c.before.before in
     simp (lt-ltb _ _ t.before.if1.false, lt-ltb _ _ t.if2.false, ne_eqb _ _ c.before.if3.true, c.refuse3.ensures)
@@ -42,7 +42,7 @@ refuse-requires-4 : tie.Need-refuse-requires-4
 refuse-requires-4 c κs = search rules
 
 returns-4 : tie.Need-returns-4
-unfolding wordStep
+unfolding word_step
 returns-4 c =
     let t = c.before.before in
     simp (
@@ -60,7 +60,7 @@ refuse-requires-5 : tie.Need-refuse-requires-5
 refuse-requires-5 c κs = search rules
 
 returns-5 : tie.Need-returns-5
-unfolding wordStep
+unfolding word_step
 returns-5 c =
     let t = c.before.before.before in
     simp (
@@ -113,7 +113,7 @@ after-word-requires c κs =
     (written c.before.before, omega (arith, t.if4.false, e), e, omega (arith, t.before.before.before.if1.false))
 
 returns-6 : tie.Need-returns-6
-unfolding wordStep
+unfolding word_step
 returns-6 c =
     let t = c.before.before.before in
     let u = t.before.before.before in
@@ -126,7 +126,7 @@ returns-6 c =
       ← t.plan.ensures.0,
       ← c.before.before.slot.ensures.0,
       c.before.word_byte.ensures,
-      c.after-word.ensures,
+      c.after_word_lem.ensures,
     )
 
 pub word-step-spec : {M : Type 1} → statement M

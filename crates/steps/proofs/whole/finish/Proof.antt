@@ -1,6 +1,6 @@
 -- Each turn is a step, and comes nearer to the end.
-use Rattle.steps.proofs.Ends.{to-end-rest, reported, turn-ends, turn-less, turn-area, turn-journal}
-use Rattle.steps.specs.Steps.{step_of, left, toEnd}
+use Rattle.steps.proofs.Ends.{to-end-rest, reported, turn_ends, turn_less, turn_area, turn_journal}
+use Rattle.steps.specs.Steps.{step_of, left, to_end}
 use Rattle.steps.specs.declared.Stepped.{Stepped}
 use Rattle.journal.specs.Journal.{memory, records}
 use lib.ListN.{length}
@@ -10,7 +10,7 @@ use Rattle.steps.proofs.whole.finish.Tie as tie
 
 abbrev invariant-loop : tie.invariant-loop
 invariant-loop area₀ «data» journal₀ s₀ area journal s =
-    (toEnd «data» s₀ (memory journal₀ area₀) ≡ toEnd «data» s (memory journal area)) × (length area ≡ length area₀) × (length journal ≡ length journal₀)
+    (to_end «data» s₀ (memory journal₀ area₀) ≡ to_end «data» s (memory journal area)) × (length area ≡ length area₀) × (length journal ≡ length journal₀)
 
 abbrev decreases-loop : tie.decreases-loop
 decreases-loop area₀ «data» journal₀ s₀ area journal s = left (records journal) s
@@ -35,7 +35,7 @@ left_by c = ap (λ (r : Stepped). r.state) c.before.before.before.before.before.
 loop-less : tie.Need-loop-smaller invariant-loop decreases-loop
 loop-less c =
     let v = c.before.before.before.before.before in
-    turn-less _ _ _ _ _ _ _ (left_by c) v.step.ensures.1 v.before.before.before.if1.true
+    turn_less _ _ _ _ _ _ _ (left_by c) v.step.ensures.1 v.before.before.before.if1.true
 
 loop-again : tie.Need-loop-preserved invariant-loop decreases-loop
 loop-again c =
@@ -43,9 +43,9 @@ loop-again c =
     let i = (L c).loop.invariant in
     let n = v.before.before.before.if1.true in
     let f = v.step.ensures.1 in (
-      i.0 ∙ turn-ends _ _ _ _ _ _ _ (left_by c) f n,
-      turn-area _ _ _ _ _ _ _ (left_by c) f ∙ i.1,
-      turn-journal _ _ _ _ _ _ _ (left_by c) f ∙ i.2,
+      i.0 ∙ turn_ends _ _ _ _ _ _ _ (left_by c) f n,
+      turn_area _ _ _ _ _ _ _ (left_by c) f ∙ i.1,
+      turn_journal _ _ _ _ _ _ _ (left_by c) f ∙ i.2,
     )
 
 same_length : tie.Need-same-length invariant-loop decreases-loop

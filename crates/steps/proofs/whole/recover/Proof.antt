@@ -1,6 +1,6 @@
 -- The decision, and the steps to the end.
-use Rattle.steps.proofs.Power.{recover-is}
-use Rattle.steps.specs.Steps.{toEnd}
+use Rattle.steps.proofs.Power.{recover_is}
+use Rattle.steps.specs.Steps.{to_end}
 use Rattle.steps.specs.declared.Steps.{Steps}
 use Rattle.journal.specs.Journal.{memory}
 use mathlib.Core.List.{[]}
@@ -30,8 +30,8 @@ returns c =
     let k = f.before.before.before.before in
     let a = k.before.before.before.before.before.args in
     let m = memory a.journal.now a.area.now in
-    let e = f.finish.ensures ∙ ap (λ (s : Steps). toEnd [] s m) k.recover-start.ensures.0 in
-    (e ∙ recover-is [] m, e)
+    let e = f.finish.ensures ∙ ap (λ (s : Steps). to_end [] s m) k.recover-start.ensures.0 in
+    (e ∙ recover_is [] m, e)
 
 pub recover-spec : {M : Type 1} → statement M
 recover-spec =

@@ -1,6 +1,6 @@
 -- The answer of a survey is that of the check, whatever entry is wanted.
 use Rattle.std.proofs.Common.{sym, ◌∙◌, rules}
-use Rattle.walk.proofs.Survey.{accepted-in, refused-in}
+use Rattle.walk.proofs.Survey.{accepted_in, refused_in}
 use Rattle.walk.proofs.check.check_of.Statement.{statement}
 use Rattle.walk.proofs.check.check_of.Tie as tie
 
@@ -19,12 +19,12 @@ enum-known-r c = search rules
 returns : tie.Need-returns
 returns c =
     let k = c.before in
-    sym (accepted-in _ _ _ _ _ _ _ _ (sym k.before.before.survey-of.ensures ∙ k.facts.given.1)).checked
+    sym (accepted_in _ _ _ _ _ _ _ _ (sym k.before.before.survey-of.ensures ∙ k.facts.given.1)).checked
 
 returns-2 : tie.Need-returns-2
 returns-2 c =
     let k = c.before in
-    sym (refused-in _ _ _ _ _ _ (sym k.before.before.survey-of.ensures ∙ k.r.given.1))
+    sym (refused_in _ _ _ _ _ _ (sym k.before.before.survey-of.ensures ∙ k.r.given.1))
 
 pub check-of-spec : {M : Type 1} → statement M
 check-of-spec =

@@ -1,6 +1,6 @@
 -- With has_checksum the exclusive or of the used bytes is compared, without it the checksum byte.
 use Rattle.std.proofs.Common.{rules, eq-eqb, ne_eqb}
-use Rattle.rules.specs.Checksum.{checksumHolds}
+use Rattle.rules.specs.Checksum.{checksum_holds}
 use Rattle.walk.proofs.check.checksum_holds.Statement.{statement}
 use Rattle.walk.proofs.check.checksum_holds.Tie as tie
 
@@ -11,14 +11,14 @@ xor-part-requires : tie.Need-xor-part-requires
 xor-part-requires c κs = search rules
 
 returns : tie.Need-returns
-unfolding checksumHolds
+unfolding checksum_holds
 returns c =
     let i = c.before.before in
     let s = i.before.before.before in
     simp (← s.requires.0, eq-eqb _ _ i.if1.true, ← c.xor-part.ensures)
 
 returns-2 : tie.Need-returns-2
-unfolding checksumHolds
+unfolding checksum_holds
 returns-2 c =
     let s = c.before.before.before.before in
     simp (← s.requires.0, ne_eqb _ _ c.before.if1.false)

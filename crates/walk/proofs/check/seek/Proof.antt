@@ -1,31 +1,31 @@
 -- What the walk tells of the wanted entry is of the list's own entries, none where the walk is broken.
 use Rattle.std.proofs.Common.{◌≡◌, ℕ, List, sym, refl, ap, ◌∙◌, rules}
 use Rattle.rules.specs.declared.Header.{Header}
-use Rattle.rules.specs.Header.{headerOf}
-use Rattle.rules.specs.Entries.{Walk, entries, broken, walk_of, walk, seen, entriesOf}
+use Rattle.rules.specs.Header.{header_of}
+use Rattle.rules.specs.Entries.{Walk, entries, broken, walk_of, walk, seen, entries_of}
 use Rattle.walk.specs.declared.wanted.Wanted.{Wanted}
 use Rattle.walk.specs.declared.wanted.Sought.{Sought}
 use Rattle.walk.specs.declared.wanted.Sought.TheVariants.{Nothing}
 use Rattle.walk.specs.declared.cursor.Walked.{Walked}
 use Rattle.walk.specs.declared.cursor.Walked.TheVariants.{Counts, Broken}
-use Rattle.walk.specs.Wanted.{wantedIn, wantedOf, sought, told}
+use Rattle.walk.specs.Wanted.{wanted_in, wanted_of, sought, told}
 use Rattle.walk.proofs.check.seek.Statement.{statement}
 use Rattle.walk.proofs.check.seek.Tie as tie
 
 -- the wanted entry that a walk tells
-abbrev foundIn : Walked → Sought
-foundIn (Counts live voids found) = found
-foundIn (Broken at) = Nothing
+abbrev found_in : Walked → Sought
+found_in (Counts live voids found) = found
+found_in (Broken at) = Nothing
 
-found-told : (w : Wanted) (k : Walk) → foundIn (told w k) ≡ sought (wantedOf w (seen k))
-unfolding wantedIn
+found-told : (w : Wanted) (k : Walk) → found_in (told w k) ≡ sought (wanted_of w (seen k))
+unfolding wanted_in
 found-told w (entries es) = refl
 found-told w (broken at) = refl
 
 -- of a list's own header it is one of the list's entries
-found-own : (w : Wanted) (a : List ℕ) (h : Header) → h ≡ headerOf a → foundIn (told w (walk_of h a)) ≡ sought (wantedOf w (entriesOf a))
-unfolding walk entriesOf
-found-own w a h e = rw e (found-told w (walk_of (headerOf a) a))
+found-own : (w : Wanted) (a : List ℕ) (h : Header) → h ≡ header_of a → found_in (told w (walk_of h a)) ≡ sought (wanted_of w (entries_of a))
+unfolding walk entries_of
+found-own w a h e = rw e (found-told w (walk_of (header_of a) a))
 
 walk-requires : tie.Need-walk-requires
 walk-requires c κs = search rules
@@ -39,12 +39,12 @@ enum_told c = search rules
 returns : tie.Need-returns
 returns c =
     let k = c.before.before.before in
-    ap foundIn (sym c.before.found.given.1 ∙ k.walk.ensures) ∙ found-own _ _ _ k.before.before.requires.0
+    ap found_in (sym c.before.found.given.1 ∙ k.walk.ensures) ∙ found-own _ _ _ k.before.before.requires.0
 
 returns-2 : tie.Need-returns-2
 returns-2 c =
     let k = c.before.before in
-    ap foundIn (sym c.enum_told.given.1 ∙ k.walk.ensures) ∙ found-own _ _ _ k.before.before.requires.0
+    ap found_in (sym c.enum_told.given.1 ∙ k.walk.ensures) ∙ found-own _ _ _ k.before.before.requires.0
 
 pub seek-spec : {M : Type 1} → statement M
 seek-spec = tie.close (tie.spec walk-requires enum-known-found enum_told returns returns-2)

@@ -4,9 +4,9 @@ use lib.Seq.{split_at}
 use Rattle.wire.specs.Bytes.{field, sum}
 use Rattle.wire.proofs.Sum.{sum-append}
 use Rattle.rules.specs.declared.Header.{Header}
-use Rattle.rules.specs.Header.{headerOf}
+use Rattle.rules.specs.Header.{header_of}
 use Rattle.rules.specs.Checksum.{without}
-use Rattle.rules.specs.Edition09.{sumHolds}
+use Rattle.rules.specs.Edition09.{sum_holds}
 use Rattle.walk.proofs.check.sum_holds.Statement.{statement}
 use Rattle.walk.proofs.check.sum_holds.Tie as tie
 
@@ -19,12 +19,12 @@ sum-without l i h =
     (omega (arith, sum-append (take i l) (drop (suc i) l), ap sum (split_at l i 0 h), sum-append (take i l) (get_or l i 0 ∷ drop (suc i) l)))
 
 -- the checksum byte is among the used bytes
-checksum-byte : (a : List ℕ) (n : ℕ) → 4 < n → (headerOf a).checksum ≡ get_or (take n a) 4 0
-unfolding headerOf field
+checksum-byte : (a : List ℕ) (n : ℕ) → 4 < n → (header_of a).checksum ≡ get_or (take n a) 4 0
+unfolding header_of field
 checksum-byte a n h = omega (arith, get_or-take n a 4 0 h)
 
 -- so the sum of all used bytes minus the checksum byte c is that of the others
-others : (a : List ℕ) (n c all r : ℕ) → 5 ≤ n → n ≤ length a → c ≡ (headerOf a).checksum → all ≡ sum (take n (drop 0 a)) % 256
+others : (a : List ℕ) (n c all r : ℕ) → 5 ≤ n → n ≤ length a → c ≡ (header_of a).checksum → all ≡ sum (take n (drop 0 a)) % 256
     → (r + c) % 256 ≡ all → r < 256 → r ≡ sum (without 4 (take n a)) % 256
 others a n c all r low high e p q byte =
     let l : length (take n a) ≡ n = length-take-le n a high in
@@ -40,7 +40,7 @@ wrapping-sub-u8-requires : tie.Need-wrapping-sub-u8-requires
 wrapping-sub-u8-requires c κs = search rules
 
 returns : tie.Need-returns
-unfolding sumHolds
+unfolding sum_holds
 returns c =
     let s = c.before.before.before.before in
     let h = s.args.h in

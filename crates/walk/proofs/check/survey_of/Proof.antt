@@ -1,10 +1,10 @@
 -- A refused header is the answer; behind a good one come the checksum and the walk, whose answer is the survey's.
 use Rattle.std.proofs.Common.{◌≡◌, sym, ◌∙◌, arith, rules}
-use Rattle.rules.specs.Entries.{walk, entriesOf}
-use Rattle.rules.specs.Check.{checksOf}
-use Rattle.walk.specs.Format.{editionOf}
-use Rattle.walk.specs.Survey.{surveyIn}
-use Rattle.walk.proofs.Headed.{GoodHeader, good-header, bad-header, shortest, answered, walk-answers}
+use Rattle.rules.specs.Entries.{walk, entries_of}
+use Rattle.rules.specs.Check.{checks_of}
+use Rattle.walk.specs.Format.{edition_of}
+use Rattle.walk.specs.Survey.{survey_in}
+use Rattle.walk.proofs.Headed.{GoodHeader, good_header, bad_header, shortest, answered, walk-answers}
 use Rattle.walk.proofs.check.survey_of.Statement.{statement}
 use Rattle.walk.proofs.check.survey_of.Tie as tie
 
@@ -21,19 +21,19 @@ refusal-requires : tie.Need-refusal-requires
 refusal-requires c κs = search rules
 
 returns : tie.Need-returns
-unfolding checksOf
+unfolding checks_of
 returns c =
     let h = c.before.before.before in
     let a = h.before.before.args in
     let k = c.before.enum_told.given.1 in
-    simp (c.refusal.ensures, k, bad-header (editionOf a.format) a.editing a.area.now a.base _ (sym h.check-header.ensures ∙ k))
+    simp (c.refusal.ensures, k, bad_header (edition_of a.format) a.editing a.area.now a.base _ (sym h.check-header.ensures ∙ k))
 
 abbrev S : tie.After-headed → tie.Start
 S c = c.before.before.before.before
 
 -- what is known behind a good header
-good : (c : tie.After-headed) → let a = (S c).args in GoodHeader (editionOf a.format) a.editing a.area.now a.base c.headed.given.0.0
-good c = good-header _ _ _ _ _ (sym c.before.before.check-header.ensures ∙ c.headed.given.1)
+good : (c : tie.After-headed) → let a = (S c).args in GoodHeader (edition_of a.format) a.editing a.area.now a.base c.headed.given.0.0
+good c = good_header _ _ _ _ _ (sym c.before.before.check-header.ensures ∙ c.headed.given.1)
 
 summed-requires : tie.Need-summed-requires
 summed-requires c κs =
@@ -41,7 +41,7 @@ summed-requires c κs =
     (g.same, omega (arith, shortest (S c.before).args.format, g.least), g.used)
 
 returns-2 : tie.Need-returns-2
-unfolding checksOf
+unfolding checks_of
 returns-2 c =
     let s = c.before in
     simp ((good s.before.before).passed, ← s.summed.ensures, c.if1.true)
@@ -63,8 +63,8 @@ enum-known-at c = search rules
 
 -- the survey's answer is the walk's
 goes_on : (c : tie.After-walk) → let k = c.before.before.before.before in let a = (S k).args in
-    surveyIn (editionOf a.format) a.editing a.area.now a.base a.w ≡ answered k.headed.given.0.0 c.walk.result
-unfolding checksOf walk entriesOf
+    survey_in (edition_of a.format) a.editing a.area.now a.base a.w ≡ answered k.headed.given.0.0 c.walk.result
+unfolding checks_of walk entries_of
 goes_on c =
     let i = c.before in
     let g = good i.before.before.before in

@@ -2,8 +2,8 @@
 use Rattle.std.proofs.Common.{◌≡◌, ℕ, ◌+◌, ◌*◌, ◌/◌, ◌%◌, List, ap, ◌∙◌, add_assoc, arith, rules}
 use Rattle.wire.specs.Bytes.{field}
 use Rattle.wire.proofs.Range.{Bytes}
-use Rattle.wire.proofs.Field.{field-split, field_lt}
-use Rattle.rules.specs.Entries.{entryAt}
+use Rattle.wire.proofs.Field.{field_split, field_lt}
+use Rattle.rules.specs.Entries.{entry_at}
 use Rattle.walk.proofs.cursor.entry_at.Statement.{statement}
 use Rattle.walk.proofs.cursor.entry_at.Tie as tie
 
@@ -28,14 +28,14 @@ record Parts (a : List ℕ) (at : ℕ) : Type 0 where
 parts : (a : List ℕ) (at : ℕ) → Bytes a → Parts a at
 parts a at b =
     let e : field a (at + 3) 5 ≡ field a (at + 3) 1 + 256 * field a (at + 4) 4 =
-    field-split a (at + 3) 1 4 ∙ ap (λ (n : ℕ). field a (at + 3) 1 + 256 * field a n 4) (add_assoc at 3 1) in
-    let w : field a at 8 ≡ field a at 3 + 16777216 * field a (at + 3) 5 = field-split a at 3 5 in
+    field_split a (at + 3) 1 4 ∙ ap (λ (n : ℕ). field a (at + 3) 1 + 256 * field a n 4) (add_assoc at 3 1) in
+    let w : field a at 8 ≡ field a at 3 + 16777216 * field a (at + 3) 5 = field_split a at 3 5 in
     let t = field_lt a at 3 b in
     let h = field_lt a (at + 3) 1 b in
     record { tag = omega arith; header = omega arith; size = omega arith }
 
 returns : tie.Need-returns
-unfolding entryAt
+unfolding entry_at
 returns c =
     let a = c.before.before.args in
     let p : Parts a.a.now a.at = parts a.a.now a.at (λ i. omega (arith, c.before.shared-slice-known.given i)) in

@@ -2,7 +2,7 @@
 use Rattle.std.proofs.Common.{◌≡◌, Bool, true, false, not, ◌&&◌, ◌||◌, eqb, ltb, refl, arith, rules, le-ltb, eq-eqb, ne_eqb}
 use mathlib.Core.Bool.{and-false}
 use Rattle.rules.specs.Entries.{span}
-use Rattle.rules.specs.Add.{entrySpan}
+use Rattle.rules.specs.Add.{entry_span}
 use Rattle.laws.proofs.Walk.{neither}
 use Rattle.walk.proofs.cursor.judge.Statement.{statement}
 use Rattle.walk.proofs.cursor.judge.Tie as tie
@@ -17,7 +17,7 @@ returns : tie.Need-returns
 returns c =
     let i = c.before.before in
     let e = i.before.before.args.e in
-    let s : span e ≡ entrySpan e.data_size = omega arith in
+    let s : span e ≡ entry_span e.data_size = omega arith in
     simp (c.fit.ensures, c.before.entry-span.ensures, s, eq-eqb _ _ i.if1.true, le-ltb e.hdr_size 8 (omega arith), and-false)
 
 -- a size other than 8 is wrong in version 1, and in every version where it is under 8

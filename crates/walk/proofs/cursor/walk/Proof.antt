@@ -1,9 +1,9 @@
 -- The invariant: what was counted and remembered, with what the rest of the walk tells, is what the whole tells; each entry took eight bytes or more.
 use Rattle.std.proofs.Common.{◌≡◌, ◌+◌, ◌-◌, ◌*◌, ◌≤◌, sym, ap, ◌∙◌, arith, rules}
-use Rattle.rules.specs.Entries.{walkFrom, walk_of}
+use Rattle.rules.specs.Entries.{walk_from, walk_of}
 use Rattle.walk.specs.declared.cursor.Step.TheVariants.{Next}
 use Rattle.walk.specs.Wanted.{told}
-use Rattle.walk.proofs.Steps.{Tells, step-tells, toldFrom, told-first, told-last, told-void, told-live}
+use Rattle.walk.proofs.Steps.{Tells, step_tells, told_from, told-first, told-last, told-void, told-live}
 use Rattle.walk.proofs.cursor.walk.Statement.{statement}
 use Rattle.walk.proofs.cursor.walk.Tie as tie
 
@@ -11,7 +11,7 @@ abbrev invariant-loop : tie.invariant-loop
 invariant-loop a h w used c₀ live₀ voids₀ m₀ c live voids m =
     (c.at ≤ used)
     × ((live + voids) * 8 ≤ c.at)
-    × (toldFrom w live voids m (walkFrom h.version a used c.at) ≡ told w (walk_of h a))
+    × (told_from w live voids m (walk_from h.version a used c.at) ≡ told w (walk_of h a))
 
 abbrev decreases-loop : tie.decreases-loop
 decreases-loop a h w used c₀ live₀ voids₀ m₀ c live voids m = used - c.at
@@ -48,7 +48,7 @@ goes : (c : tie.After-e invariant-loop decreases-loop) → let h = (S c).args.h 
     Tells h.version (S c).args.a.now h.used_size c.before.before.before.loop.c.at (Next x.0 x.1.0)
 goes c =
     let s = c.before.before in
-    step-tells _ _ _ _ _ s.before.loop.invariant.0 (sym s.step.ensures ∙ c.e.given.1)
+    step_tells _ _ _ _ _ s.before.loop.invariant.0 (sym s.step.ensures ∙ c.e.given.1)
 
 loop-less : tie.Need-loop-smaller invariant-loop decreases-loop
 loop-less c = let t = goes c.before.before.before.before in omega arith
@@ -60,7 +60,7 @@ loop-again c =
     let l = m.before.before.before.before.before.loop in (
       t.1,
       omega arith,
-      rw m.with.ensures (sym (ap (toldFrom _ _ _ _) t.2 ∙ told-void _ _ _ _ _ _ c.if1.true) ∙ l.invariant.2),
+      rw m.with.ensures (sym (ap (told_from _ _ _ _) t.2 ∙ told-void _ _ _ _ _ _ c.if1.true) ∙ l.invariant.2),
     )
 
 add-live : tie.Need-overflow-add-live invariant-loop decreases-loop
@@ -76,7 +76,7 @@ loop-again-2 c =
     let l = m.before.before.before.before.before.loop in (
       t.1,
       omega arith,
-      rw m.with.ensures (sym (ap (toldFrom _ _ _ _) t.2 ∙ told-live _ _ _ _ _ _ c.if1.false) ∙ l.invariant.2),
+      rw m.with.ensures (sym (ap (told_from _ _ _ _) t.2 ∙ told-live _ _ _ _ _ _ c.if1.false) ∙ l.invariant.2),
     )
 
 enum_told : tie.Need-enum-told invariant-loop decreases-loop
@@ -86,7 +86,7 @@ returns : tie.Need-returns invariant-loop decreases-loop
 returns c =
     let s = c.before.before in
     let l = s.before.loop in
-    rw (← l.invariant.2, step-tells _ _ _ _ _ l.invariant.0 (sym s.step.ensures ∙ c.enum_told.given.1), told-last)
+    rw (← l.invariant.2, step_tells _ _ _ _ _ l.invariant.0 (sym s.step.ensures ∙ c.enum_told.given.1), told-last)
 
 enum-told-2 : tie.Need-enum-told-2 invariant-loop decreases-loop
 enum-told-2 c = search rules
@@ -95,11 +95,11 @@ cast-t16 : tie.Need-overflow-cast-t16 invariant-loop decreases-loop
 cast-t16 c = search rules
 
 returns-2 : tie.Need-returns-2 invariant-loop decreases-loop
-unfolding toldFrom
+unfolding told_from
 returns-2 c =
     let s = c.before.before in
     let l = s.before.loop in
-    rw (← l.invariant.2, step-tells _ _ _ _ _ l.invariant.0 (sym s.step.ensures ∙ c.enum-told2.given.1))
+    rw (← l.invariant.2, step_tells _ _ _ _ _ l.invariant.0 (sym s.step.ensures ∙ c.enum-told2.given.1))
 
 pub walk-spec : {M : Type 1} → statement M
 walk-spec =

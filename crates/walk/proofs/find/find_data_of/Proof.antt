@@ -1,7 +1,7 @@
 -- The part is the data that `find_of` answers, at its offset, which lies within the area; where it refuses the part is empty.
 use Rattle.std.proofs.Common.{sym, refl, ◌∙◌, arith, rules}
 use native.Mathlib.Nat.{add-sub_cancel_left}
-use Rattle.rules.specs.Find.{findDataOf}
+use Rattle.rules.specs.Find.{find_data_of}
 use Rattle.laws.proofs.Check.{find-within}
 use Rattle.walk.proofs.find.find_data_of.Statement.{statement}
 use Rattle.walk.proofs.find.find_data_of.Tie as tie
@@ -26,7 +26,7 @@ part-result-end c = search rules
 
 -- the part would be empty at any place; that it stands at the area's start is the third claim
 returns : tie.Need-returns
-unfolding findDataOf
+unfolding find_data_of
 returns c =
     let k = c.before in
     let r = sym k.before.before.find-of.ensures ∙ k.enum_told.given.1 in
@@ -54,7 +54,7 @@ part-result-end-2 c =
     omega arith
 
 returns-2 : tie.Need-returns-2
-unfolding findDataOf
+unfolding find_data_of
 returns-2 c =
     let k = c.before.before in
     let r = sym k.before.before.find-of.ensures ∙ k.offset.given.1 in

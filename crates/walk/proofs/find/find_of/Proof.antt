@@ -7,42 +7,42 @@ use Rattle.rules.specs.declared.Checked.TheVariants as checked
 use Rattle.rules.specs.declared.Found.{Found}
 use Rattle.rules.specs.declared.Found.TheVariants as found
 use Rattle.rules.specs.declared.Refusal.TheVariants.{Tag, None}
-use Rattle.rules.specs.Area.{maxLength}
-use Rattle.rules.specs.Header.{headerOf}
+use Rattle.rules.specs.Area.{max_length}
+use Rattle.rules.specs.Header.{header_of}
 use Rattle.rules.specs.Edition.{Edition}
-use Rattle.rules.specs.Entries.{dataOffset, entriesOf}
-use Rattle.rules.specs.Refusals.{refusesTag}
-use Rattle.rules.specs.Check.{checksOf}
-use Rattle.rules.specs.Find.{found_at, afterCheck, findOf}
-use Rattle.walk.specs.Format.{editionOf}
+use Rattle.rules.specs.Entries.{data_offset, entries_of}
+use Rattle.rules.specs.Refusals.{refuses_tag}
+use Rattle.rules.specs.Check.{checks_of}
+use Rattle.rules.specs.Find.{found_at, after_check, find_of}
+use Rattle.walk.specs.Format.{edition_of}
 use Rattle.laws.proofs.Check.{sound, find-within}
 use Rattle.walk.specs.declared.wanted.Sought.{Sought}
 use Rattle.walk.specs.declared.wanted.Sought.TheVariants.{At, Nothing}
 use Rattle.walk.specs.declared.check.Surveyed.{Surveyed}
 use Rattle.walk.specs.declared.check.Surveyed.TheVariants.{Accepted, Refused}
-use Rattle.walk.specs.Wanted.{wantedIn}
-use Rattle.walk.specs.Survey.{surveyed, surveyIn}
-use Rattle.walk.proofs.Survey.{occurrence-wanted, accepted-in}
+use Rattle.walk.specs.Wanted.{wanted_in}
+use Rattle.walk.specs.Survey.{surveyed, survey_in}
+use Rattle.walk.proofs.Survey.{occurrence_wanted, accepted_in}
 use Rattle.walk.proofs.find.find_of.Statement.{statement}
 use Rattle.walk.proofs.find.find_of.Tie as tie
 
 -- what find makes of a survey
 abbrev located : Sought → Found
-located (At e) = found.At (dataOffset e) e.data_size
+located (At e) = found.At (data_offset e) e.data_size
 located Nothing = found.Refused None
 
 abbrev answered : ℕ → Surveyed → Found
-answered tag (Accepted f h x) = cond (refusesTag tag) (found.Refused Tag) (located x)
+answered tag (Accepted f h x) = cond (refuses_tag tag) (found.Refused Tag) (located x)
 answered tag (Refused r) = found.Refused r
 
 -- and that it is the rule
 find-survey : (ed : Edition) (a : List ℕ) (base tag n : ℕ)
-    → findOf ed a base tag n ≡ answered tag (surveyIn ed false a base (record { tag = tag; least = 0; n = n }))
-unfolding findOf
-find-survey ed a base tag n = rw occurrence-wanted (go (checksOf ed false a base) (wantedIn tag 0 n (entriesOf a)))
+    → find_of ed a base tag n ≡ answered tag (survey_in ed false a base (record { tag = tag; least = 0; n = n }))
+unfolding find_of
+find-survey ed a base tag n = rw occurrence_wanted (go (checks_of ed false a base) (wanted_in tag 0 n (entries_of a)))
   where
     go : (c : Checked) (o : Option Entry)
-        → afterCheck c (cond (refusesTag tag) (found.Refused Tag) (found_at o)) ≡ answered tag (surveyed (headerOf a) o c)
+        → after_check c (cond (refuses_tag tag) (found.Refused Tag) (found_at o)) ≡ answered tag (surveyed (header_of a) o c)
     go (checked.Accepted f) (some e) = refl
     go (checked.Accepted f) none = refl
     go (checked.Refused r) o = refl
@@ -72,7 +72,7 @@ S c = c.before.before.before.before
 
 -- behind an accepted survey the tag decides, then what was found
 asked : (c : tie.After-refuses-tag) → let k = c.before.before in let a = (S k).args in
-    findOf (editionOf a.format) a.area.now a.base a.tag a.n
+    find_of (edition_of a.format) a.area.now a.base a.tag a.n
     ≡ cond c.refuses-tag.result (found.Refused Tag) (located k.surveyed.given.0.1.1.0)
 asked c =
     let k = c.before.before in
@@ -98,14 +98,14 @@ K c = c.before.before.before.before.before
 
 -- the answer is the rule's
 answers : (c : tie.After-found) → let a = (S (K c)).args in
-    findOf (editionOf a.format) a.area.now a.base a.tag a.n ≡ located (At c.found.given.0.0)
+    find_of (edition_of a.format) a.area.now a.base a.tag a.n ≡ located (At c.found.given.0.0)
 answers c = let i = c.before.before in rw (asked i.before, i.if1.false, c.found.given.1)
 
 -- so the data starts within the longest area
-near : (c : tie.After-found) → dataOffset c.found.given.0.0 ≤ maxLength
+near : (c : tie.After-found) → data_offset c.found.given.0.0 ≤ max_length
 near c =
     let k = K c in
-    let t = accepted-in _ _ _ _ _ _ _ _ (sym k.before.before.survey-of.ensures ∙ k.surveyed.given.1) in
+    let t = accepted_in _ _ _ _ _ _ _ _ (sym k.before.before.survey-of.ensures ∙ k.surveyed.given.1) in
     let u = (sound _ false _ _ _ t.checked).0.header.usable in
     let w = find-within _ _ _ _ _ _ _ (answers c) in
     omega arith

@@ -2,8 +2,8 @@
 use Rattle.std.proofs.Common.{◌≡◌, cond, rules, eq-eqb, ne_eqb}
 use mathlib.Core.Option.{none, some}
 use Rattle.rules.specs.declared.Refusal.TheVariants.{Sizes}
-use Rattle.rules.specs.Check.{fieldsRefusal}
-use Rattle.walk.specs.Format.{editionOf}
+use Rattle.rules.specs.Check.{fields_refusal}
+use Rattle.walk.specs.Format.{edition_of}
 use Rattle.walk.proofs.header.check_fields.Statement.{statement}
 use Rattle.walk.proofs.header.check_fields.Tie as tie
 
@@ -11,11 +11,11 @@ signature-requires : tie.Need-signature-requires
 signature-requires c κs = search rules
 
 returns : tie.Need-returns
-unfolding fieldsRefusal
+unfolding fields_refusal
 returns c = simp (← c.before.before.signature.ensures, ne_eqb _ _ c.if1.true)
 
 returns-2 : tie.Need-returns-2
-unfolding fieldsRefusal
+unfolding fields_refusal
 returns-2 c =
     let i = c.before.before in
     simp (← i.before.before.signature.ensures, eq-eqb _ _ i.if1.false, eq-eqb _ _ c.if2.true)
@@ -24,7 +24,7 @@ refuses-readonly-requires : tie.Need-refuses-readonly-requires
 refuses-readonly-requires c κs = search rules
 
 returns-3 : tie.Need-returns-3
-unfolding fieldsRefusal
+unfolding fields_refusal
 returns-3 c =
     let v = c.before.before in
     let i = v.before.before in
@@ -44,8 +44,8 @@ S c = c.before.before.before.before.before.before.before.before
 
 -- behind the first three tests the sizes decide
 sizes-decide : (c : tie.After-refuses-sizes)
-    → fieldsRefusal (editionOf (S c).args.format) (S c).args.editing (S c).args.len (S c).args.h ≡ cond c.refuses-sizes.result (some Sizes) none
-unfolding fieldsRefusal
+    → fields_refusal (edition_of (S c).args.format) (S c).args.editing (S c).args.len (S c).args.h ≡ cond c.refuses-sizes.result (some Sizes) none
+unfolding fields_refusal
 sizes-decide c =
     let e = c.before in
     let v = e.before.before in

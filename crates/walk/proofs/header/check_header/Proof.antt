@@ -1,6 +1,6 @@
 -- An area that is not usable is refused, then one that is too short; the fields of the header that is read there decide the rest.
 use Rattle.std.proofs.Common.{arith, rules, le-ltb, lt-ltb}
-use Rattle.rules.specs.Check.{headerRefusal}
+use Rattle.rules.specs.Check.{header_refusal}
 use Rattle.walk.proofs.Headed.{shortest}
 use Rattle.walk.proofs.header.check_header.Statement.{statement}
 use Rattle.walk.proofs.header.check_header.Tie as tie
@@ -9,7 +9,7 @@ usable-requires : tie.Need-usable-requires
 usable-requires c κs = search rules
 
 returns : tie.Need-returns
-unfolding headerRefusal
+unfolding header_refusal
 returns c = simp (← c.before.usable.ensures, c.if1.true)
 
 header-size-requires : tie.Need-header-size-requires
@@ -19,7 +19,7 @@ cast-if2 : tie.Need-overflow-cast-if2
 cast-if2 c = search rules
 
 returns-2 : tie.Need-returns-2
-unfolding headerRefusal
+unfolding header_refusal
 returns-2 c =
     let i = c.before.before in
     simp (← i.before.usable.ensures, i.if1.false, ← c.before.header-size.ensures, lt-ltb _ _ c.if2.true)
@@ -33,7 +33,7 @@ check-fields-requires : tie.Need-check-fields-requires
 check-fields-requires c κs = search rules
 
 returns-3 : tie.Need-returns-3
-unfolding headerRefusal
+unfolding header_refusal
 returns-3 c =
     let l = c.before.before in
     let i = l.before.before in

@@ -1,7 +1,7 @@
 -- Each field is read at its place in the table; a field of one byte is that byte, and behind the end a field's bytes count 0.
 use Rattle.std.proofs.Common.{◌≡◌, ℕ, List, get_or, arith, rules}
 use Rattle.wire.specs.Bytes.{field}
-use Rattle.rules.specs.Header.{headerOf}
+use Rattle.rules.specs.Header.{header_of}
 use Rattle.walk.proofs.header.read_header.Statement.{statement}
 use Rattle.walk.proofs.header.read_header.Tie as tie
 
@@ -38,7 +38,7 @@ unfolding field
 one_byte a at = omega arith
 
 returns : tie.Need-returns
-unfolding headerOf
+unfolding header_of
 returns c =
     let d = c.before.before.before in
     simp (

@@ -2,7 +2,7 @@
 use Rattle.std.proofs.Common.{◌+◌, arith, rules, le-leb}
 use mathlib.Core.Bool.{and-false, and-true}
 use borrow.Author.Tests.{lt-leb}
-use Rattle.rules.specs.Area.{maxAddress}
+use Rattle.rules.specs.Area.{max_address}
 use Rattle.walk.proofs.header.usable.Statement.{statement}
 use Rattle.walk.proofs.header.usable.Tie as tie
 
@@ -12,7 +12,7 @@ returns c = simp (lt-leb _ _ c.if1.true, and-false)
 returns-2 : tie.Need-returns-2
 returns-2 c =
     let a = c.before.before.args in
-    simp (lt-leb (a.base + a.len) maxAddress (omega arith), and-false)
+    simp (lt-leb (a.base + a.len) max_address (omega arith), and-false)
 
 add-result : tie.Need-overflow-add-result
 add-result c = search rules

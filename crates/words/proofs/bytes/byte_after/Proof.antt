@@ -2,8 +2,8 @@
 use mathlib.Core.Path.{sym, ◌∙◌}
 use native.Mathlib.Omega.{arith}
 use mathlib.Core.Logic.{inl, inr}
-use Rattle.plan.proofs.Laws.{headerSpan-le}
-use Rattle.words.proofs.Laws.{after-in, after-fields, after-outside}
+use Rattle.plan.proofs.Laws.{header_span_le}
+use Rattle.words.proofs.Laws.{after_in, after_fields, after_outside}
 use borrow.Author.Rules.{rules}
 use Rattle.words.proofs.bytes.byte_after.Statement.{statement}
 use Rattle.words.proofs.bytes.byte_after.Tie as tie
@@ -15,7 +15,7 @@ returns : tie.Need-returns
 returns c =
     let start = c.before.before.before.before.before in
     let a = start.args in
-    c.field-byte.ensures ∙ sym (after-fields a.p a.area.now a.«data».now start.requires.0 a.i (inl (omega arith)))
+    c.field_byte.ensures ∙ sym (after_fields a.p a.area.now a.«data».now start.requires.0 a.i (inl (omega arith)))
 
 add-if2 : tie.Need-overflow-add-if2
 add-if2 c = search rules
@@ -32,7 +32,7 @@ header-span-requires c κs = search rules
 add-if2-4 : tie.Need-overflow-add-if2-4
 add-if2-4 c =
     let a = c.before.before.before.before.before.before.before.before.args in
-    omega (arith, (headerSpan-le a.p.behind).0)
+    omega (arith, (header_span_le a.p.behind).0)
 
 stretch-byte-requires : tie.Need-stretch-byte-requires
 stretch-byte-requires c κs = search rules
@@ -41,7 +41,7 @@ returns-2 : tie.Need-returns-2
 returns-2 c =
     let start = c.before.before.before.before.before.before.before.before.before.before in
     let a = start.args in
-    c.stretch-byte.ensures ∙ sym (after-in a.p a.area.now a.«data».now start.requires.0 a.i (omega arith) (omega arith))
+    c.stretch-byte.ensures ∙ sym (after_in a.p a.area.now a.«data».now start.requires.0 a.i (omega arith) (omega arith))
 
 shared-slice-read-result : tie.Need-shared-slice-read-result
 shared-slice-read-result c = search rules
@@ -50,7 +50,7 @@ returns-3 : tie.Need-returns-3
 returns-3 c =
     let start = c.before.before.before.before.before.before.before.before.before.before in
     let a = start.args in
-    sym (after-outside a.p a.area.now a.«data».now start.requires.0 a.i (omega arith) (inr (omega arith)))
+    sym (after_outside a.p a.area.now a.«data».now start.requires.0 a.i (omega arith) (inr (omega arith)))
 
 pub byte-after-spec : {M : Type 1} → statement M
 byte-after-spec =

@@ -6,7 +6,7 @@ use mathlib.Core.Logic.{inl}
 use mathlib.Core.List.{List}
 use lib.ListN.{set, length-set}
 use lib.Seq.{get_or-set_same, get_or-set_other}
-use Rattle.words.proofs.Laws.{between, apart, fields-used, fields-stored}
+use Rattle.words.proofs.Laws.{between, apart, fields_used, fields_stored}
 use borrow.Author.Rules.{rules}
 use Rattle.words.proofs.bytes.field_byte.Statement.{statement}
 use Rattle.words.proofs.bytes.field_byte.Tie as tie
@@ -17,7 +17,7 @@ returns c =
     let p = start.args.p in
     let a : List ℕ = start.args.area.now in
     rw c.if1.true
-    (sym (fields-stored p a start.requires.0 4 (inl (omega arith))
+    (sym (fields_stored p a start.requires.0 4 (inl (omega arith))
     ∙ get_or-set_other (set a 4 p.checksum) 7 4 (p.alignment % 256) 0 (λ e. omega arith)
     ∙ get_or-set_same a 4 p.checksum 0 (omega arith)))
 
@@ -28,7 +28,7 @@ returns-2 c =
     let a : List ℕ = start.args.area.now in
     let m : p.alignment % 256 ≡ p.alignment = omega arith in
     rw c.if2.true
-    (sym (fields-stored p a start.requires.0 7 (inl (omega arith))
+    (sym (fields_stored p a start.requires.0 7 (inl (omega arith))
     ∙ get_or-set_same (set a 4 p.checksum) 7 (p.alignment % 256) 0 (rw length-set (omega arith))
     ∙ m))
 
@@ -43,7 +43,7 @@ returns-3 c =
     let start = c.before.before.before.before.before in
     let a = start.args in
     let b = between 8 12 a.i c.before.if3.true in
-    c.byte_of.ensures ∙ sym (fields-used a.p a.area.now start.requires.0 a.i b.0 b.1)
+    c.byte_of.ensures ∙ sym (fields_used a.p a.area.now start.requires.0 a.i b.0 b.1)
 
 shared-slice-read-result : tie.Need-shared-slice-read-result
 shared-slice-read-result c = search rules
@@ -55,7 +55,7 @@ returns-4 c =
     let p = start.args.p in
     let a : List ℕ = start.args.area.now in
     let i : ℕ = start.args.i in
-    sym (fields-stored p a start.requires.0 i (apart 8 12 i c.before.if3.false)
+    sym (fields_stored p a start.requires.0 i (apart 8 12 i c.before.if3.false)
     ∙ get_or-set_other (set a 4 p.checksum) 7 i (p.alignment % 256) 0 c.before.before.if2.false
     ∙ get_or-set_other a 4 i p.checksum 0 f.if1.false)
 

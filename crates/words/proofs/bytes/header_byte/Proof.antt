@@ -2,7 +2,7 @@
 use mathlib.Core.Path.{sym, ◌∙◌}
 use native.Mathlib.Omega.{arith}
 use Rattle.wire.specs.Bytes.{le_bytes}
-use Rattle.rules.specs.Entries.{entryHeader}
+use Rattle.rules.specs.Entries.{entry_header}
 use Rattle.words.proofs.Laws.{header-tag, header-size}
 use borrow.Author.Rules.{rules}
 use Rattle.words.proofs.bytes.header_byte.Statement.{statement}
@@ -17,7 +17,7 @@ returns c =
     c.byte_of.ensures ∙ sym (header-tag a.tag a.size a.k (omega arith))
 
 returns-2 : tie.Need-returns-2
-unfolding entryHeader le_bytes
+unfolding entry_header le_bytes
 returns-2 c = rw c.if2.true
 
 sub-byte-of : tie.Need-overflow-sub-byte-of

@@ -4,7 +4,7 @@ use native.Mathlib.Omega.{arith}
 use mathlib.Core.List.{List}
 use lib.ListN.{length}
 use Rattle.plan.specs.Plan.{after}
-use Rattle.words.proofs.Window.{Counted, counted_none, counted-all, counted-one}
+use Rattle.words.proofs.Window.{Counted, counted_none, counted_all, counted_one}
 use borrow.Author.Rules.{rules}
 use Rattle.words.proofs.search.changed_words.Statement.{statement}
 use Rattle.words.proofs.search.changed_words.Tie as tie
@@ -34,7 +34,7 @@ returns : tie.Need-returns invariant-loop decreases-loop
 returns c =
     let w = c.before in
     let l = w.before.loop in
-    counted-all (S w).args.area.now (new w) l.n l.from w.next-changed.result l.invariant w.next-changed.ensures c.if1.true
+    counted_all (S w).args.area.now (new w) l.n l.from w.next-changed.result l.invariant w.next-changed.ensures c.if1.true
 
 -- behind a word that changes
 on : (c : tie.Else1 invariant-loop decreases-loop) → let w = c.before in let l = w.before.loop in let r = w.next-changed.result in
@@ -42,7 +42,7 @@ on : (c : tie.Else1 invariant-loop decreases-loop) → let w = c.before in let l
 on c =
     let w = c.before in
     let l = w.before.loop in
-    counted-one (S w).args.area.now (new w) l.n l.from w.next-changed.result l.invariant w.next-changed.ensures c.if1.false
+    counted_one (S w).args.area.now (new w) l.n l.from w.next-changed.result l.invariant w.next-changed.ensures c.if1.false
 
 add-n : tie.Need-overflow-add-n invariant-loop decreases-loop
 add-n c = let s = on c in omega arith

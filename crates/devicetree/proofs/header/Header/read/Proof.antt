@@ -1,5 +1,5 @@
 -- Each field is the number that was read at its place.
-use Rattle.devicetree.specs.Header.{headerOf}
+use Rattle.devicetree.specs.Header.{header_of}
 use borrow.Author.Rules.{rules}
 use Rattle.devicetree.proofs.header.Header.read.Statement.{statement}
 use Rattle.devicetree.proofs.header.Header.read.Tie as tie
@@ -32,7 +32,7 @@ cell-requires-9 : tie.Need-cell-requires-9
 cell-requires-9 c κs = search rules
 
 returns : tie.Need-returns
-unfolding headerOf
+unfolding header_of
 returns c =
     simp (
       ← c.cell9.ensures,
