@@ -1,9 +1,7 @@
 # make run       the demonstration: the paper's first examples, a full list tidied, a bench's boot over the library, which reads a device
-#                tree, up to the valves' test certificates, a list with leftovers refused and scrubbed, damaged boots,
-#                where a bad entry is named, a breaker that trips in the middle of an edit, the loop that steps and
-#                flushes, a list of edition 0.9 converted
-# make show      the entries of a list in a file, up to a bad one, which it points at, and what is left over between and
-#                behind them: FILE=.. BASE=..; without a file, three samples
+#                tree, up to the valves' test certificates, damaged boots, where a bad entry is named, a breaker that trips in the middle of
+#                an edit, the loop that steps and flushes, a list of edition 0.9 converted
+# make show      the entries of a list in a file, up to a bad one, which it points at: FILE=.. BASE=..; without a file, two samples
 # make test      everything that is checked; ends with rt ci, whose last line is 'N passed, 0 failed'
 # make lib       target/staticlib/libtransfer_list.a, for C on x86-64
 # make install   the archive, the header and a pkg-config file under PREFIX (default /usr/local)

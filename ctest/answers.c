@@ -2,9 +2,8 @@
  * The paper's examples A to N (it has no L) and every refusal, through the header alone. For each call every field of the answer is
  * printed, how many bytes changed, and the bytes where any did. `make ctest` compares this with answers.expected, which was worked out
  * from the paper and not with this library. The examples of edition 0.9 are our own, since source 000 has none, and so are those of
- * document 02, requests 2, 3 and 5 to 10, but for the reading of 900. Examples I and J are as its request 7 amends
- * them, and `at` of every answer is as its request 8 has it. The lists that are to be edited are clean, or are made so
- * by tl_scrub(), as its request 10 has it.
+ * document 02, requests 2, 3 and 5 to 9, but for the reading of 900. Examples I and J are as its request 7 amends them, and `at` of every
+ * answer is as its request 8 has it.
  *
  * At most 65,536 bytes are lent, but for longer areas and targets that are all 0, are refused and stay so. So 65,537 of example I is not
  * here: it is a row of the proved table, and `make compare-large` has it.
@@ -185,13 +184,6 @@ static void tidy(void)
     show_done(tl_tidy(lend(&area, len), len, base));
 }
 
-static void scrub(void)
-{
-    printf("tl_scrub: %zu bytes at 0x%" PRIx64 "\n", len, base);
-    keep();
-    show_done(tl_scrub(lend(&area, len), len, base));
-}
-
 static void relocate(size_t target_len, uint64_t target_base)
 {
     memset(target.now, 0xee, SPACE);
@@ -267,16 +259,16 @@ static void every_call(void)
     add_aligned(4, 4, 4);
     strike(1, 0);
     tidy();
-    scrub();
     relocate(128, 0x2000);
 }
 
-/* To a list with a void of 16 data of n bytes are added. */
+/* To a list with a void of 16 data of n bytes are added. Byte 79, behind the list, is not 0 before. */
 static void add_to_void_of_16(size_t n)
 {
     create(80, 0x1000, true);
     add(1, 16, false);
     strike(1, 0);
+    put(79, 1, 0xee);
     add(2, n, true);
 }
 
@@ -419,10 +411,11 @@ static void other_refusals(void)
     strike(1, 1);
 }
 
-/* To a list of 65,536 bytes data of n bytes are added. */
+/* To a list of 65,536 bytes data of n bytes are added. The bytes behind its header are not 0 before. */
 static void add_far(uint64_t new_base, size_t n, uint32_t exponent)
 {
     create(65536, new_base, true);
+    put(24, 65512, 0xee);
     add_aligned(4, n, exponent);
 }
 
@@ -448,7 +441,7 @@ static void great_exponents(void)
     add_far(0x1000, 0, 21);
 }
 
-/* Lists of edition 0.9, the bytes of their size. Padding and voids' data are not 0, and a conversion writes 0 there. */
+/* Lists of edition 0.9, the bytes of their size. Padding and voids' data are not 0, so that they are seen to be copied. */
 static const uint8_t empty_16[16] = {0xff, 0xd0, 0x6e, 0x00, 0x71, 0x01, 0x10, 0x03, 0x10, 0x00, 0x00, 0x00, 0x10, 0x00, 0x00, 0x00};
 static const uint8_t empty_64[16] = {0xff, 0xd0, 0x6e, 0x00, 0xa1, 0x01, 0x10, 0x03, 0x10, 0x00, 0x00, 0x00, 0x40, 0x00, 0x00, 0x00};
 
@@ -756,7 +749,7 @@ static void event_logs(void)
     strike(5, 0);
 }
 
-/* Lists to be tidied. Voids' data and padding are not 0, so that they are to be scrubbed before. */
+/* Lists to be tidied. Voids' data and padding are not 0. */
 
 /* tags 1 to 5 with eight bytes each; total_size 112 */
 static const uint8_t five[104] = {0x0b, 0xb1, 0x0f, 0x4a, 0xf5, 0x01, 0x18, 0x03, 0x68, 0x00, 0x00, 0x00, 0x70, 0x00, 0x00, 0x00,
@@ -789,18 +782,13 @@ static const uint8_t no_data[88] = {0x0b, 0xb1, 0x0f, 0x4a, 0xe3, 0x01, 0x18, 0x
                                     0x06, 0x00, 0x00, 0x08, 0x00, 0x00, 0x00, 0x00, 0x00, 0x00, 0x00, 0x08, 0x00, 0x00, 0x00, 0x00,
                                     0x00, 0x00, 0x00, 0x08, 0x00, 0x00, 0x00, 0x00};
 
-/*
- * Of the five entries those named are made voids, whose data stay, and the bytes behind used_size are not 0. So tidying
- * is 15 DIRTY; the list is scrubbed, and tidied twice.
- */
+/* Of the five entries those named are made voids, whose data stay. The list is tidied twice. */
 static void tidy_five(const char *voids, uint8_t checksum)
 {
     list("a list", five, sizeof five, 117, 0x1000);
     for (const char *v = voids; *v != '\0'; v++)
         put(24 + 16 * (size_t)(*v - '1'), 1, 0);
     put(4, 1, checksum);
-    tidy();
-    scrub();
     tidy();
     tidy();
     check();
@@ -813,7 +801,7 @@ static void tidy_runs(void)
     title("tidy: a void at the start; two");
     tidy_five("1", 0xf4);
     tidy_five("12", 0xf6);
-    title("tidy: a void in the middle, which stays as it is, since there is nothing to join; two; three");
+    title("tidy: a void in the middle, whose data and checksum change though there is nothing to join; two; three");
     tidy_five("3", 0xf6);
     tidy_five("23", 0xf4);
     tidy_five("234", 0xf0);
@@ -831,12 +819,10 @@ static void tidy_runs(void)
     tidy();
     tidy();
     check();
-    title("tidy: no entries; the bytes behind used_size are 0, or it is 15 DIRTY");
+    title("tidy: no entries; the bytes behind used_size stay");
     create(64, 0x1000, true);
     tidy();
     put(24, 40, 0xee);
-    tidy();
-    scrub();
     tidy();
     create(25, 0x1000, false);
     tidy();
@@ -844,23 +830,19 @@ static void tidy_runs(void)
 
 static void tidy_kept(void)
 {
-    title("tidy: 15 DIRTY; scrubbed, offsets, alignment, flags, reserved, what is behind total stay; no tag is judged");
+    title("tidy: offsets, padding, alignment, flags, reserved and the bytes behind used_size stay; the tags are not judged");
     list("a list", mixed, sizeof mixed, 150, 0x1000);
     check();
-    tidy();
-    scrub();
     tidy();
     check();
     find(1, 0);
     find(1, 1);
     find(0x800000, 0);
     tidy();
-    title("tidy: without has_checksum the checksum byte is 0, scrubbed and tidied");
+    title("tidy: without has_checksum the checksum byte is 0");
     list("a list", mixed, sizeof mixed, 150, 0x1000);
     put(4, 1, 0);
     put(16, 1, 2);
-    tidy();
-    scrub();
     tidy();
     check();
     title("tidy: the padding void of an aligned entry stays with the entry; the alignment stays without it");
@@ -955,10 +937,7 @@ static void tidy_refusals(void)
     title("tidy, 1 AREA: an area may end 2 bytes below 2^48, and not 6 bytes above");
     list("a list", mixed, sizeof mixed, 150, TOP - 144);
     tidy();
-    scrub();
     base = TOP - 152;
-    tidy();
-    scrub();
     tidy();
     title("tidy, 5 READONLY: version 2 can be read");
     list("a list", mixed, sizeof mixed, 150, 0x1000);
@@ -2794,17 +2773,12 @@ static void journal_aligned(void)
     create(64, 0x1000, true);
     put_journal(80);
     add_aligned_journalled(4, 4, 4);
-    title("journal: where bytes behind used are not 0, 15 DIRTY, whatever the journal is; scrubbed, five words again");
+    title("journal: the same with exponent 6 where the bytes behind used are not 0: three words more, the void's data");
     create(128, 0x1000, true);
     put(24, 104, 0xee);
-    put_journal(95);
+    put_journal(143);
     add_aligned_journalled(4, 4, 6);
     put_journal(144);
-    add_aligned_journalled(4, 4, 6);
-    scrub();
-    put_journal(95);
-    add_aligned_journalled(4, 4, 6);
-    put_journal(96);
     add_aligned_journalled(4, 4, 6);
 }
 
@@ -3183,622 +3157,6 @@ static void foreign_buffers(void)
     printf("%u steps: %u stored more than one byte, %u stored and gave 17\n", calls, more, refused_and_stored);
 }
 
-/*
- * Leftovers. The list `clean` has at 24 tag 1 with three bytes, its padding from 35 to 39; at 40 a void, its data from
- * 48 to 63; at 64 tag 0xfff001 with eight bytes and no padding; at 80 tag 4 with four bytes, its padding from 92 to 95;
- * used_size 96 and total_size 120. Of the 125 bytes that are lent those from 120 on are ee.
- */
-static const uint8_t clean[120] = {
-    0x0b, 0xb1, 0x0f, 0x4a, 0x39, 0x01, 0x18, 0x03, 0x60, 0x00, 0x00, 0x00, 0x78, 0x00, 0x00, 0x00,
-    0x01, 0x00, 0x00, 0x00, 0x00, 0x00, 0x00, 0x00, 0x01, 0x00, 0x00, 0x08, 0x03, 0x00, 0x00, 0x00,
-    0xaa, 0xbb, 0xcc, 0x00, 0x00, 0x00, 0x00, 0x00, 0x00, 0x00, 0x00, 0x08, 0x10, 0x00, 0x00, 0x00,
-    0x00, 0x00, 0x00, 0x00, 0x00, 0x00, 0x00, 0x00, 0x00, 0x00, 0x00, 0x00, 0x00, 0x00, 0x00, 0x00,
-    0x01, 0xf0, 0xff, 0x08, 0x08, 0x00, 0x00, 0x00, 0x11, 0x12, 0x13, 0x14, 0x15, 0x16, 0x17, 0x18,
-    0x04, 0x00, 0x00, 0x08, 0x04, 0x00, 0x00, 0x00, 0x41, 0x42, 0x43, 0x44};
-
-/* tag 0xfff001 with 0 to 8 bytes, from 24 on; voids of 0, 8 and 16, from 160 on; used_size 208, total_size 224 */
-static const uint8_t sizes[224] = {
-    0x0b, 0xb1, 0x0f, 0x4a, 0xc2, 0x01, 0x18, 0x03, 0xd0, 0x00, 0x00, 0x00, 0xe0, 0x00, 0x00, 0x00,
-    0x01, 0x00, 0x00, 0x00, 0x00, 0x00, 0x00, 0x00, 0x01, 0xf0, 0xff, 0x08, 0x00, 0x00, 0x00, 0x00,
-    0x01, 0xf0, 0xff, 0x08, 0x01, 0x00, 0x00, 0x00, 0x91, 0x00, 0x00, 0x00, 0x00, 0x00, 0x00, 0x00,
-    0x01, 0xf0, 0xff, 0x08, 0x02, 0x00, 0x00, 0x00, 0x91, 0x92, 0x00, 0x00, 0x00, 0x00, 0x00, 0x00,
-    0x01, 0xf0, 0xff, 0x08, 0x03, 0x00, 0x00, 0x00, 0x91, 0x92, 0x93, 0x00, 0x00, 0x00, 0x00, 0x00,
-    0x01, 0xf0, 0xff, 0x08, 0x04, 0x00, 0x00, 0x00, 0x91, 0x92, 0x93, 0x94, 0x00, 0x00, 0x00, 0x00,
-    0x01, 0xf0, 0xff, 0x08, 0x05, 0x00, 0x00, 0x00, 0x91, 0x92, 0x93, 0x94, 0x95, 0x00, 0x00, 0x00,
-    0x01, 0xf0, 0xff, 0x08, 0x06, 0x00, 0x00, 0x00, 0x91, 0x92, 0x93, 0x94, 0x95, 0x96, 0x00, 0x00,
-    0x01, 0xf0, 0xff, 0x08, 0x07, 0x00, 0x00, 0x00, 0x91, 0x92, 0x93, 0x94, 0x95, 0x96, 0x97, 0x00,
-    0x01, 0xf0, 0xff, 0x08, 0x08, 0x00, 0x00, 0x00, 0x91, 0x92, 0x93, 0x94, 0x95, 0x96, 0x97, 0x98,
-    0x00, 0x00, 0x00, 0x08, 0x00, 0x00, 0x00, 0x00, 0x00, 0x00, 0x00, 0x08, 0x08, 0x00, 0x00, 0x00,
-    0x00, 0x00, 0x00, 0x00, 0x00, 0x00, 0x00, 0x00, 0x00, 0x00, 0x00, 0x08, 0x10, 0x00, 0x00, 0x00};
-
-static size_t used_size(void)
-{
-    return area.now[8] + ((size_t)area.now[9] << 8) + ((size_t)area.now[10] << 16) + ((size_t)area.now[11] << 24);
-}
-
-/* Not a call: bits of a byte change, and if it is a used one those of the checksum byte too, which stays right. */
-static void flip(size_t at, uint8_t mask)
-{
-    if (at < used_size())
-        area.now[4] ^= mask;
-    area.now[at] ^= mask;
-}
-
-/* Not a call: a byte becomes another, and the checksum stays right. */
-static void dirt(size_t at, uint8_t byte)
-{
-    flip(at, area.now[at] ^ byte);
-    printf("by hand: byte %zu is %02x, and the checksum byte %02x\n", at, area.now[at], area.now[4]);
-}
-
-static void put_clean(void)
-{
-    list("a clean list", clean, sizeof clean, 125, 0x1000);
-}
-
-/* Each edit but scrub, each on the list as it is given, which is then there again. */
-static void each_edit(void)
-{
-    static uint8_t given[SPACE];
-    memcpy(given, area.now, SPACE);
-    for (int i = 0; i < 6; i++) {
-        switch (i) {
-        case 0: add(1, 3, false); break;
-        case 1: add(1, 8, true); break;
-        case 2: add_aligned(4, 4, 4); break;
-        case 3: strike(1, 0); break;
-        case 4: tidy(); break;
-        default: relocate(128, 0x2000);
-        }
-        memcpy(area.now, given, SPACE);
-    }
-}
-
-/* The list with a byte that is not 0 at one place: read, edited, scrubbed twice, and edited. */
-static void dirty_at(size_t at, uint8_t byte)
-{
-    put_clean();
-    dirt(at, byte);
-    check();
-    find(4, 0);
-    each_edit();
-    scrub();
-    scrub();
-    add(1, 8, true);
-}
-
-static void dirty_places(void)
-{
-    title("leftovers: a clean list is taken by each edit, and scrub leaves it as it is");
-    put_clean();
-    each_edit();
-    scrub();
-    title("leftovers, 15 DIRTY: the first and the last byte of the first entry's padding; scrubbed twice, it is taken");
-    dirty_at(35, 0x5a);
-    dirty_at(39, 0x01);
-    title("leftovers, 15 DIRTY: the first and the last byte of a void's data");
-    dirty_at(48, 0x80);
-    dirty_at(63, 0xff);
-    title("leftovers, 15 DIRTY: the first and the last byte of the last entry's padding");
-    dirty_at(92, 0x5a);
-    dirty_at(95, 0x10);
-    title("leftovers, 15 DIRTY: the first and the last byte from used_size to total_size");
-    dirty_at(96, 0x01);
-    dirty_at(119, 0x80);
-    title("leftovers: the byte at total_size and the last one lent are none, whatever they are; they stay");
-    dirty_at(120, 0x5a);
-    dirty_at(124, 0x01);
-    title("leftovers: flags, reserved and alignment are none");
-    put_clean();
-    put(7, 1, 6);
-    put(16, 1, 0xff);
-    put(17, 7, 0x5a);
-    put(4, 1, 0x98);
-    check();
-    each_edit();
-    scrub();
-}
-
-/* Each call whose own refusal, if the list is scrubbed, is 9 to 14, in the order of the numbers. */
-static void own_refusals(void)
-{
-    add(0x800000, 3, false);
-    add_aligned(0, 4, 4);
-    strike(0, 0);
-    add(6, 11, true);
-    add_aligned(5, 3, 4);
-    add_aligned(4, 4, 2);
-    add_aligned(4, 4, 22);
-    relocate(128, TOP - 120);
-    relocate(LIMIT + 1, 0x2000);
-    strike(1, 1);
-    strike(9, 0);
-    add(1, 17, false);
-    add_aligned(4, 4, 12);
-    relocate(8, 0x2000);
-}
-
-static void dirty_beside_others(void)
-{
-    title("leftovers: 15 DIRTY comes before 9 TAG, 10 SHAPE, 11 ALIGN, 12 TARGET, 13 NONE and 14 ROOM");
-    put_clean();
-    dirt(119, 0x5a);
-    own_refusals();
-    title("leftovers: scrubbed, each of these");
-    scrub();
-    own_refusals();
-    title("leftovers: 8 ENTRY with its place comes before 15 DIRTY, also where the leftovers stand before it");
-    put_clean();
-    dirt(35, 0x5a);
-    dirt(119, 0x5a);
-    put(83, 1, 9);
-    put(4, 1, 0x62);
-    every_call();
-    title("leftovers: 7 CHECKSUM comes before it: scrub repairs no checksum");
-    put(83, 1, 8);
-    every_call();
-    put(4, 1, 0x39);
-    every_call();
-    title("leftovers: 6 SIZES, 5 READONLY, 4 VERSION, 3 SIGNATURE, 2 SHORT and 1 AREA do");
-    put(7, 1, 22);
-    every_call();
-    put(5, 1, 2);
-    every_call();
-    put(5, 1, 0);
-    every_call();
-    put(0, 1, 0x0a);
-    every_call();
-    len = 23;
-    every_call();
-    len = 0;
-    scrub();
-    base = 0x1004;
-    every_call();
-}
-
-static void scrub_refusals(void)
-{
-    title("scrub without an area: 1 AREA where base is no multiple of 8, else 2 SHORT; too long, 1; all of it 0, 3");
-    len = 0;
-    base = 0x1004;
-    scrub();
-    base = 0x1000;
-    scrub();
-    len = LIMIT + 1;
-    scrub();
-    len = LIMIT;
-    scrub();
-    title("scrub, 1 AREA: an area may end 3 bytes below 2^48, and not 5 above; no sum wraps");
-    put_clean();
-    dirt(96, 0x5a);
-    base = TOP - 120;
-    scrub();
-    base = UINT64_MAX - 119;
-    scrub();
-    base = TOP - 128;
-    scrub();
-    title("scrub, 3 SIGNATURE: of a list of edition 0.9");
-    list09(one_entry, 32, 64, 0x1000);
-    scrub();
-    title("scrub, 5 READONLY: version 2, with and without leftovers, can be read");
-    put_clean();
-    put(5, 1, 2);
-    put(4, 1, 0x3a);
-    check();
-    scrub();
-    dirt(48, 0x5a);
-    check();
-    scrub();
-    title("scrub, 6 SIZES: the area is too short for total_size; 8 ENTRY: used_size 88, where no entry ends");
-    put_clean();
-    dirt(119, 0x5a);
-    len = 119;
-    scrub();
-    len = 120;
-    put(8, 1, 88);
-    put(4, 1, 0x05);
-    scrub();
-    title("scrub, 7 CHECKSUM: without has_checksum the checksum byte is not 0");
-    put_clean();
-    put(16, 1, 0);
-    scrub();
-    title("scrub, 8 ENTRY: the void's data_size is 12; the last entry exceeds used_size; the first has hdr_size 7");
-    put_clean();
-    dirt(35, 0x5a);
-    put(44, 1, 12);
-    put(4, 1, 0x7f);
-    scrub();
-    put(44, 1, 16);
-    put(84, 1, 9);
-    put(4, 1, 0x6e);
-    scrub();
-    put(84, 1, 4);
-    put(27, 1, 7);
-    put(4, 1, 0x6c);
-    scrub();
-}
-
-static void scrub_results(void)
-{
-    title("scrub: all leftovers at once, each byte 5a; everything else stays, behind total_size too; twice is once");
-    put_clean();
-    put(35, 5, 0x5a);
-    put(48, 16, 0x5a);
-    put(92, 4, 0x5a);
-    put(96, 24, 0x5a);
-    put(4, 1, 0x63);
-    check();
-    scrub();
-    scrub();
-    check();
-    title("scrub: equal leftovers, after which the checksum byte is as it was");
-    put_clean();
-    dirt(35, 0x5a);
-    dirt(63, 0x5a);
-    scrub();
-    title("scrub: without has_checksum the checksum byte stays 0");
-    put_clean();
-    put(16, 1, 0xfe);
-    put(4, 1, 0);
-    put(39, 1, 0x5a);
-    put(63, 1, 0x01);
-    put(119, 1, 0x80);
-    each_edit();
-    scrub();
-    scrub();
-    each_edit();
-    title("scrub: neighbouring voids are not joined, and voids at the end stay; tidy then sees to both");
-    list("a list", mixed, sizeof mixed, 150, 0x1000);
-    scrub();
-    check();
-    tidy();
-    scrub();
-    title("scrub: nothing but entries without data, and no byte behind them");
-    list("a list", no_data, sizeof no_data, 88, 0x1000);
-    scrub();
-    title("scrub: tags and lengths are not judged; data that are 0 or look like an entry stay");
-    create(64, 0x1000, true);
-    add(4, 3, false);
-    add(4, 8, false);
-    put(24, 1, 6);
-    put(26, 1, 0x80);
-    put(40, 1, 6);
-    put(48, 8, 0);
-    put(51, 1, 8);
-    put(4, 1, 0xc2);
-    check();
-    scrub();
-    dirt(35, 0x08);
-    scrub();
-    find(6, 0);
-    title("scrub: no entries; total_size 24 and no byte behind");
-    create(64, 0x1000, true);
-    scrub();
-    put(24, 40, 0xee);
-    scrub();
-    create(25, 0x1000, false);
-    put(24, 1, 0xee);
-    scrub();
-}
-
-static void scrub_long(void)
-{
-    title("scrub: 65,536 bytes that end at 2^48, all behind the header ee; only the first one, only the last; none");
-    create(65536, TOP - 65536, true);
-    put(24, 65512, 0xee);
-    add_aligned(4, 4, 12);
-    scrub();
-    put(24, 1, 0x01);
-    tidy();
-    scrub();
-    put(65535, 1, 0x80);
-    tidy();
-    scrub();
-    scrub();
-    title("scrub: a void over all of them, its data 5a; the padding of an entry that fills the list");
-    create(65536, 0x1000, true);
-    put(27, 1, 8);
-    put(28, 1, 0xe0);
-    put(29, 1, 0xff);
-    put(8, 1, 0x00);
-    put(10, 1, 0x01);
-    put(32, 65504, 0x5a);
-    put(4, 1, 0xf3);
-    check();
-    strike(1, 0);
-    scrub();
-    check();
-    put(24, 1, 0x01);
-    put(28, 1, 0xd9);
-    put(4, 1, 0xcb);
-    check();
-    put(65529, 7, 0x5a);
-    put(4, 1, 0x91);
-    strike(1, 0);
-    scrub();
-    strike(1, 0);
-    title("scrub: entries of 8 bytes only, and one with leftovers in the midst of them");
-    create(65536, 0x1000, true);
-    put_voids(24, 8189);
-    put(8, 1, 0x00);
-    put(10, 1, 0x01);
-    put(4, 1, 0xec);
-    scrub();
-    put(32004, 1, 8);
-    put(32008, 8, 0x5a);
-    put(4, 1, 0xec);
-    check();
-    tidy();
-    scrub();
-    check();
-}
-
-static void dirty_journals(void)
-{
-    static const job jobs[3] = {
-        {ADD, 1, 3, false, 0, 0}, {ADD_ALIGNED, 4, 4, false, 4, 0}, {STRIKE, 1, 0, false, 0, 0}};
-    static const size_t places[4] = {35, 63, 95, 119};
-    title("leftovers: each edit with a journal, whole and in steps, is 15 DIRTY, and the journal stays");
-    for (size_t i = 0; i < 4; i++) {
-        put_clean();
-        put_journal(128);
-        dirt(places[i], 0x5a);
-        for (size_t k = 0; k < 3; k++) {
-            make(jobs[k]);
-            make_steps(jobs[k]);
-        }
-    }
-    title("leftovers: 15 DIRTY comes before 16 JOURNAL, and 8 ENTRY before both");
-    put_journal(16);
-    put_kind(0, 1);
-    for (size_t k = 0; k < 3; k++)
-        make(jobs[k]);
-    put_journal(0);
-    for (size_t k = 0; k < 3; k++)
-        make(jobs[k]);
-    put(83, 1, 9);
-    put(4, 1, 0x38);
-    for (size_t k = 0; k < 3; k++)
-        make(jobs[k]);
-    title("leftovers: scrubbed, each edit with a journal is made, and leaves a clean list");
-    put_clean();
-    dirt(35, 0x5a);
-    dirt(119, 0x5a);
-    put_journal(128);
-    make(jobs[0]);
-    scrub();
-    make(jobs[0]);
-    scrub();
-    make(jobs[2]);
-    scrub();
-    make((job){ADD, 2, 8, true, 0, 0});
-    scrub();
-    put_clean();
-    make(jobs[1]);
-    scrub();
-    title("leftovers: a recovery does not look for them");
-    put_clean();
-    dirt(35, 0x5a);
-    put_journal(32);
-    recover();
-    put_record(0, 96, 0x5a);
-    put_kind(1, 2);
-    recover();
-    add(1, 3, true);
-}
-
-static void dirty_read(void)
-{
-    title("leftovers: a certificate is read all the same; an add is 15 DIRTY");
-    source = sound;
-    create(128, 0x1000, true);
-    add(TL_TAG_CERTIFICATE, 56, false);
-    put(88, 40, 0x5a);
-    certificate(SERIAL, TEST);
-    add(TL_TAG_CERTIFICATE, 56, false);
-    scrub();
-    certificate(SERIAL, TEST);
-    source = data;
-    title("leftovers: so is a device tree; scrub does not look into it");
-    source = hand_tree;
-    create(256, 0x1000, true);
-    add(TL_TAG_FDT, 176, false);
-    source = data;
-    put(208, 48, 0x5a);
-    scrub();
-    put(255, 1, 0x5a);
-    strike(TL_TAG_FDT, 0);
-    tl_found tree = tl_find(area.now, len, base, TL_TAG_FDT, 0);
-    printf("tl_fdt_check: the data of tag 1: %" PRIu32 "\n", tl_fdt_check(tl_data(area.now, tree), tree.size));
-    title("leftovers: version 2 is read");
-    list("a list", later, sizeof later, 96, 0x1000);
-    check();
-    find(2, 0);
-    every_call();
-}
-
-/* A list of edition 0.9 is converted, and the list that comes of it is scrubbed, which changes nothing, and edited. */
-static void convert_clean(size_t target_len, uint64_t target_base, uint32_t shift)
-{
-    check09();
-    convert09(target_len, target_base);
-    go_on(target_len, target_base, shift);
-    check();
-    scrub();
-    tidy();
-}
-
-static void dirty_09(void)
-{
-    title("leftovers, edition 0.9: padding, voids' data and what is behind size are not judged; converted, it is 0");
-    list09(two_voids, 80, 96, 0x1000);
-    find09(6, 0);
-    convert_clean(96, 0x2000, 0);
-    list09(one_entry, 32, 64, 0x1000);
-    convert_clean(73, 0x2000, 0);
-    find(1, 0);
-    title("leftovers, edition 0.9: where there are none, the entries' bytes are as they stood");
-    list09(two_voids, 80, 96, 0x1000);
-    put(24, 8, 0);
-    put(43, 5, 0);
-    put(4, 1, 0xdf);
-    convert_clean(88, 0x2000, 0);
-    list09(sound09, 80, 80, 0x1000);
-    convert_clean(96, 0x2001, 7);
-    title("leftovers, edition 0.9: one void, all of it 5a; size 65,528, the padding of its entry");
-    list09(one_entry, 32, 64, 0x1000);
-    put(16, 1, 0);
-    put(20, 1, 8);
-    put(24, 8, 0x5a);
-    put(4, 1, 0x91);
-    convert_clean(64, 0x2000, 0);
-    list09(full, 24, 65536, 0x1000);
-    put(24, 65512, 0x5a);
-    put(8, 1, 0xf8);
-    put(9, 1, 0xff);
-    put(10, 1, 0x00);
-    put(20, 1, 0xd9);
-    put(4, 1, 0xea);
-    check09();
-    convert09(65536, 0x2000);
-}
-
-/* Every accepted edit of a clean list gives a clean list: scrub changes nothing behind each. */
-static void clean_after_edits(void)
-{
-    title("leftovers: behind each edit of a clean list there is nothing to scrub");
-    create(120, 0x1000, true);
-    scrub();
-    add(1, 3, false);
-    scrub();
-    add_aligned(4, 5, 5);
-    scrub();
-    add(2, 17, false);
-    scrub();
-    strike(1, 0);
-    scrub();
-    strike(2, 0);
-    scrub();
-    add(3, 1, true);
-    scrub();
-    add(3, 1, true);
-    scrub();
-    strike(4, 0);
-    scrub();
-    add(2, 9, true);
-    scrub();
-    strike(3, 1);
-    scrub();
-    tidy();
-    scrub();
-    relocate(113, 0x2004);
-    go_on(113, 0x2004, 28);
-    scrub();
-    check();
-}
-
-/* The calls of which a map is made: the plain edits, those with a journal, whole and in steps, scrub, the readers. */
-enum {
-    MAP_ADD, MAP_ADD_ALIGNED, MAP_STRIKE, MAP_TIDY, MAP_RELOCATE,
-    MAP_JOURNALLED, MAP_STEPS = MAP_JOURNALLED + 3, MAP_SCRUB = MAP_STEPS + 3,
-    MAP_CHECK, MAP_FIND, MAP_CERTIFICATE, MAPS
-};
-
-static const char *const map_names[MAPS] = {
-    "tl_add", "tl_add_aligned", "tl_void", "tl_tidy", "tl_relocate",
-    "tl_add_journalled", "tl_add_aligned_journalled", "tl_void_journalled",
-    "tl_add_steps", "tl_add_aligned_steps", "tl_void_steps", "tl_scrub",
-    "tl_check", "tl_find", "tl_certificate"};
-
-static const job map_jobs[3] = {
-    {ADD, 0xfff002, 9, true, 0, 0}, {ADD_ALIGNED, 0xfff002, 3, false, 3, 0}, {STRIKE, 0xfff001, 0, false, 0, 8}};
-
-static uint32_t number_of(int call)
-{
-    uint8_t *a = area.now, *j = journal.now;
-    switch (call) {
-    case MAP_ADD: return tl_add(a, len, base, 0xfff002, data, 9, true).number;
-    case MAP_ADD_ALIGNED: return tl_add_aligned(a, len, base, 0xfff002, data, 3, 3).number;
-    case MAP_STRIKE: return tl_void(a, len, base, 0xfff001, 8).number;
-    case MAP_TIDY: return tl_tidy(a, len, base).number;
-    case MAP_RELOCATE: return tl_relocate(a, len, base, target.now, 300, 0x2000).number;
-    case MAP_SCRUB: return tl_scrub(a, len, base).number;
-    case MAP_CHECK: return tl_check(a, len, base).number;
-    case MAP_FIND: return tl_find(a, len, base, 0xfff001, 8).number;
-    case MAP_CERTIFICATE: return tl_certificate(a, len, base, SERIAL, TEST).number;
-    }
-    if (call < MAP_STEPS)
-        return whole(map_jobs[call - MAP_JOURNALLED], a, j).number;
-    return decide(map_jobs[call - MAP_STEPS], a, j).done.number;
-}
-
-/* Not a call: the list with one byte changed and the checksum right; every other buffer as it was. */
-static void put_flipped(size_t at, uint8_t mask)
-{
-    memcpy(area.now, area.before, SPACE);
-    memcpy(journal.now, journal.before, SPACE);
-    memcpy(target.now, target.before, SPACE);
-    flip(at, mask);
-}
-
-static void show_map(const char *what, const unsigned *numbers)
-{
-    printf("%s\n", what);
-    for (size_t i = 0; i < len; i++)
-        printf("%s%3u%s", i % 16 == 0 ? "   " : "", numbers[i], i % 16 == 15 || i + 1 == len ? "\n" : "");
-}
-
-/* The number that a call gives where one byte is changed, for each byte; and how many refused calls changed any. */
-static void map(int call, uint8_t mask)
-{
-    static uint8_t given[SPACE];
-    unsigned numbers[256], changed = 0;
-    for (size_t at = 0; at < len; at++) {
-        put_flipped(at, mask);
-        memcpy(given, area.now, SPACE);
-        numbers[at] = number_of(call);
-        bool all_kept = memcmp(area.now, given, SPACE) == 0 && memcmp(journal.now, journal.before, SPACE) == 0
-            && memcmp(target.now, target.before, SPACE) == 0;
-        changed += numbers[at] != 0 && !all_kept;
-    }
-    printf("each byte in turn changed by %02x, %u refused calls changed a byte: ", mask, changed);
-    show_map(map_names[call], numbers);
-}
-
-/* How many bytes a scrub changes, where one is changed before it; and what the edits say then. */
-static void map_scrubbed(uint8_t mask)
-{
-    static uint8_t given[SPACE];
-    unsigned changed[256], again = 0, refused[256];
-    for (size_t at = 0; at < len; at++) {
-        put_flipped(at, mask);
-        memcpy(given, area.now, SPACE);
-        tl_scrub(area.now, len, base);
-        changed[at] = (unsigned)differences(area.now, given, SPACE);
-        memcpy(given, area.now, SPACE);
-        tl_scrub(area.now, len, base);
-        again += memcmp(area.now, given, SPACE) != 0;
-        refused[at] = number_of(MAP_TIDY);
-    }
-    printf("each byte in turn changed by %02x, %u changed by a second scrub: ", mask, again);
-    show_map("how many bytes the first one changes", changed);
-    show_map("and then tl_tidy", refused);
-}
-
-static void dirty_maps(void)
-{
-    title("leftovers: every byte of a list changed, one at a time, and the checksum right: the numbers of each call");
-    list("a clean list", sizes, sizeof sizes, 230, 0x1000);
-    put_journal(256);
-    keep();
-    for (int call = 0; call < MAPS; call++)
-        map(call, 0x01);
-    map(MAP_TIDY, 0x80);
-    map(MAP_SCRUB, 0x80);
-    map_scrubbed(0x01);
-    map_scrubbed(0x80);
-}
-
 int main(void)
 {
     zero_bytes = calloc(LIMIT + 1 + BEHIND, 1);
@@ -3857,16 +3215,6 @@ int main(void)
     recoveries_refused();
     foreign_states();
     foreign_buffers();
-    dirty_places();
-    dirty_beside_others();
-    scrub_refusals();
-    scrub_results();
-    scrub_long();
-    dirty_journals();
-    dirty_read();
-    dirty_09();
-    clean_after_edits();
-    dirty_maps();
     free(zero_bytes);
     return 0;
 }

@@ -357,12 +357,12 @@ static void clear_journal(buffers *b, size_t journal_len)
         b->journal[at] = 0;
 }
 
-/* A new list; only the bytes behind its total_size are not 0. */
+/* A new list; the bytes behind it are not 0. */
 static void make_list(buffers *b, size_t len, bool has_checksum)
 {
     memset(b->area, 0xee, AREA_MOST);
     tl_create(b->area, len, BASE, has_checksum);
-    memset(b->area + len / 8 * 8, 0xee, len % 8);
+    memset(b->area + 24, 0xee, len - 24);
 }
 
 static void put_entry(buffers *b, size_t len, uint32_t tag, size_t n)

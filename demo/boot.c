@@ -2,10 +2,8 @@
  * The boot of a test bench's controller, in four stages, each in its own area at its own address. Each stage checks the list that it is
  * handed, finds what it needs, edits, and relocates the list to the next; the second reads the device tree, the last one signs the valve's
  * test certificate. Run for several valves: one passes, one fails, and the certificate of one is refused; and once with a damaged tree in a
- * list that is good. Once with a careless stage, which writes a ticket over the old one by hand and leaves parts of the
- * old one behind: no edit takes that list before it is scrubbed. Then again with one bit damaged at a time, where the
- * stage must stop with the refusal's number and never go on with anything older. Then with one bit of an entry's header
- * damaged and the checksum right, where the refusal says which entry is bad.
+ * list that is good. Then again with one bit damaged at a time, where the stage must stop with the refusal's number and never go on with
+ * anything older. Then with one bit of an entry's header damaged and the checksum right, where the refusal says which entry is bad.
  */
 #include <stdio.h>
 #include <string.h>
@@ -287,107 +285,6 @@ static int damaged_tree(void)
     return tl_check(list, length_of(s), base_of(s)).number == 0 && !supervisor(s, 1, 0) && refusals[TL_FDT] == 1;
 }
 
-static uint8_t xor_of(const uint8_t *bytes, size_t n)
-{
-    uint8_t x = 0;
-    while (n-- > 0)
-        x ^= bytes[n];
-    return x;
-}
-
-/*
- * What a careless stage does, as in the spring's accident: by hand it writes a shorter ticket over the old one and
- * makes a void of the rest of the entry, and leaves there what stood there. In the spring it then patched the checksum
- * for the ticket's letters, and forgot the two headers; here it can do that right too.
- */
-static int write_over(stage *s, int valve, bool patched_right)
-{
-    char ticket[32];
-    uint32_t n = (uint32_t)snprintf(ticket, sizeof ticket, "valve %d", valve), new_span = (8 + n + 7) / 8 * 8;
-    tl_found old = tl_find(list_of(s), length_of(s), base_of(s), TICKET, 0);
-    uint32_t span = (8 + old.size + 7) / 8 * 8;
-    if (old.number != 0 || span < new_span + 8)
-        return 0;
-    uint8_t *list = list_of(s), *entry = list + old.offset - 8;
-    uint8_t letters = xor_of(entry + 8, n), all = xor_of(entry, span);
-    memcpy(entry + 8, ticket, n);
-    put_number(entry + 4, n, 4);
-    put_number(entry + new_span, 0x08000000, 4); /* tag 0, hdr_size 8 */
-    put_number(entry + new_span + 4, span - new_span - 8, 4);
-    list[4] ^= patched_right ? all ^ xor_of(entry, span) : letters ^ xor_of(entry + 8, n);
-    return 1;
-}
-
-enum { EDITS = 6 };
-static const char *const edit_names[EDITS] = {
-    "tl_add", "tl_add_aligned", "tl_void", "tl_void_journalled", "tl_tidy", "tl_relocate"};
-
-static tl_done edit(int i, stage *s)
-{
-    static uint8_t other[AREA_LEN], journal[1024];
-    uint8_t *list = list_of(s);
-    size_t len = length_of(s);
-    uint64_t base = base_of(s);
-    switch (i) {
-    case 0: return tl_add(list, len, base, TICKET, (const uint8_t *)"valve 9", 7, true);
-    case 1: return tl_add_aligned(list, len, base, TICKET, (const uint8_t *)"valve 9", 7, 4);
-    case 2: return tl_void(list, len, base, TICKET, 0);
-    case 3: return tl_void_journalled(list, len, base, TICKET, 0, journal, sizeof journal);
-    case 4: return tl_tidy(list, len, base);
-    default: return tl_relocate(list, len, base, other, sizeof other, 0x60000);
-    }
-}
-
-/* How many of the edits are refused with this number, each made on a copy of the stage, which then is as it was. */
-static int refused_edits(const stage *s, uint32_t number)
-{
-    int count = 0;
-    for (int i = 0; i < EDITS; i++) {
-        stage copy = *s;
-        tl_done d = edit(i, &copy);
-        printf("  %18s: ", edit_names[i]);
-        if (d.number == 0)
-            printf("accepted\n");
-        else
-            print_refusal(d.number, d.at);
-        count += d.number == number && memcmp(copy.area, s->area, AREA_LEN) == 0;
-    }
-    return count;
-}
-
-/* The supervisor's list after a careless stage; scrubbed, it goes on to the bench and the signer. */
-static int careless_stage(void)
-{
-    stage *s = &stages[1];
-    if (!loader(&stages[0], 1, 1) || !hand_over(&stages[0], s, 1) || !write_over(s, 1, false))
-        return 0;
-    printf("the checksum patched for the ticket's letters, and the headers forgotten, as in the spring:\n  ");
-    int right = print_list(list_of(s), length_of(s), base_of(s)) == TL_CHECKSUM;
-    if (!hand_over(&stages[0], s, 1) || !write_over(s, 1, true))
-        return 0;
-    tl_found ticket = tl_find(list_of(s), length_of(s), base_of(s), TICKET, 0);
-    printf("the checksum right: it is accepted, and the ticket reads \"%.*s\", but parts of the old one are left:\n  ",
-           (int)ticket.size, (const char *)tl_data(list_of(s), ticket));
-    right &= print_list(list_of(s), length_of(s), base_of(s)) == 0 && ticket.number == 0 && leftovers(list_of(s)) > 0;
-    printf("no edit goes on from there:\n");
-    right &= refused_edits(s, TL_DIRTY) == EDITS;
-    const stage before = *s;
-    tl_done d = tl_scrub(list_of(s), length_of(s), base_of(s));
-    uint32_t left = leftovers(before.area + before.shift), changed = 0;
-    for (size_t i = 0; i < AREA_LEN; i++)
-        changed += s->area[i] != before.area[i];
-    printf("tl_scrub: number %u, used_size %u; %u bytes were left over, %u have changed, the checksum being one:\n  ",
-           (unsigned)d.number, (unsigned)d.value, (unsigned)left, (unsigned)changed);
-    right &= d.number == 0 && print_list(list_of(s), length_of(s), base_of(s)) == 0 && leftovers(list_of(s)) == 0;
-    right &= changed == left + 1;
-    printf("the edits are accepted now, and the boot goes on:\n");
-    right &= refused_edits(s, TL_DIRTY) == 0;
-    for (int i = 1; i + 1 < STAGES; i++)
-        if (!hand_over(&stages[i], &stages[i + 1], 0) || !run_stage(i + 1, 1, 0))
-            return 0;
-    return right;
-}
-
 /* How many bytes the list that stage `at` is handed has. The stage before it keeps that list. */
 static uint32_t handed(int at, int valve)
 {
@@ -416,7 +313,7 @@ static int damaged_bits(void)
 }
 
 /* What can come of a boot in which a bit of an entry's hdr_size or data_size is damaged and the checksum is right. */
-enum { HDR_SIZE_THERE, DATA_SIZE_THERE, ENTRY_BEHIND, NOT_CLEAN, OTHERWISE, WENT_ON, OUTCOMES };
+enum { HDR_SIZE_THERE, DATA_SIZE_THERE, ENTRY_BEHIND, OTHERWISE, WENT_ON, OUTCOMES };
 
 static unsigned outcomes[AREA_LEN / 8][OUTCOMES]; /* by the offset of the damaged entry */
 
@@ -425,23 +322,20 @@ static int damaged_header(int at, uint32_t entry, unsigned bit)
 {
     int went_on = boot(1, (damage){at, entry + 3 + bit / 8, (uint8_t)(1u << bit % 8), true}, 1);
     int there = last_number == TL_ENTRY && last_at == entry, behind = last_number == TL_ENTRY && last_at > entry;
-    int outcome = there ? (bit < 8 ? HDR_SIZE_THERE : DATA_SIZE_THERE) : behind ? ENTRY_BEHIND : OTHERWISE;
-    if (outcome == OTHERWISE)
-        outcome = went_on ? WENT_ON : last_number == TL_DIRTY ? NOT_CLEAN : OTHERWISE;
+    int outcome = there ? (bit < 8 ? HDR_SIZE_THERE : DATA_SIZE_THERE) : behind ? ENTRY_BEHIND : went_on ? WENT_ON : OTHERWISE;
     outcomes[entry / 8][outcome]++;
     return bit < 8 ? there : there || behind || last_number == 0 || last_number > TL_ENTRY;
 }
 
 static void print_outcome(const unsigned *o)
 {
-    printf("  %21u  %22u  %16u  %5u  %9u  %7u\n", o[HDR_SIZE_THERE], o[DATA_SIZE_THERE], o[ENTRY_BEHIND], o[NOT_CLEAN],
-           o[OTHERWISE], o[WENT_ON]);
+    printf("  %21u  %22u  %16u  %9u  %7u\n", o[HDR_SIZE_THERE], o[DATA_SIZE_THERE], o[ENTRY_BEHIND], o[OTHERWISE], o[WENT_ON]);
 }
 
 static void print_outcomes(void)
 {
     unsigned all[OUTCOMES] = {0};
-    printf("  entry at  hdr_size: ENTRY there  data_size: ENTRY there  ENTRY further on  DIRTY  otherwise  went on\n");
+    printf("  entry at  hdr_size: ENTRY there  data_size: ENTRY there  ENTRY further on  otherwise  went on\n");
     for (unsigned i = 0; i < AREA_LEN / 8; i++) {
         unsigned boots = 0;
         for (int n = 0; n < OUTCOMES; n++) {
@@ -455,8 +349,7 @@ static void print_outcomes(void)
     }
     printf("       all");
     print_outcome(all);
-    printf("  further on: a wrong data_size led to bytes that are no entry; DIRTY: it made padding of data, or a void of\n"
-           "  an entry; otherwise, went on: no rule of the list is broken\n");
+    printf("  further on: a wrong data_size led to bytes that are no entry; otherwise, went on: no rule of the list is broken\n");
 }
 
 /* One bit of an entry's hdr_size or data_size damaged, at each hand-over, and the checksum put right again. */
@@ -498,8 +391,6 @@ int main(void)
     printf("one bit of the device tree damaged, in a length, and the list's checksum put right again\n");
     int right = damaged_tree() && gauge_counts_to == 8000 && verdicts[1] == 1 && verdicts[0] == 1 && refusals[TL_CONTENTS] == 1
         && refusals[TL_IDENTITY] == 1;
-    printf("\na careless stage in the supervisor's place, which writes a shorter ticket over the old one by hand\n");
-    right &= careless_stage() && verdicts[1] == 2;
     right &= damaged_bits();
     right &= damaged_headers();
     return right && misplaced == 0 ? 0 : 1;

@@ -1,7 +1,6 @@
 /*
  * A bench that still boots on edition 0.9 hands its list to a stage of the current edition, which checks it, converts it into
- * its own area, and goes on with it there. The data stay aligned, though the new header is 8 bytes longer. What an
- * older ticket has left in a void is gone.
+ * its own area, and goes on with it there. The data stay aligned, though the new header is 8 bytes longer.
  */
 #include <stdio.h>
 #include <string.h>
@@ -14,8 +13,8 @@ enum { OLD_BASE = 0x1000, TARGET_BASE = 0x24008 };
 
 /* The bench's list, made by hand, since the library makes none of edition 0.9. Its device tree is aligned to 64 bytes. */
 static uint8_t old_area[128] = {
-    [0] = 0xff, 0xd0, 0x6e, 0x00, 0x1e, 1, 16, 6, 88, 0, 0, 0, 128, 0, 0, 0, /* checksum 1e, size 88, max_size 128 */
-    [16] = 0, 0, 0, 8, 32, 0, 0, 0, 'v', 'a', 'l', 'v', 'e', ' ', '6',       /* a void of 32, with an older ticket */
+    [0] = 0xff, 0xd0, 0x6e, 0x00, 0xaa, 1, 16, 6, 88, 0, 0, 0, 128, 0, 0, 0, /* checksum aa, version 1, size 88, max_size 128 */
+    [16] = 0, 0, 0, 8, 32, 0, 0, 0,                                          /* a void of 32 */
     [56] = 1, 0, 0, 8, 8, 0, 0, 0, 0xd0, 0x0d, 0xfe, 0xed, 0, 0, 0, 8,       /* the device tree, its data at 0x1040 */
     [72] = 0x02, 0xf0, 0xff, 8, 7, 0, 0, 0, 'v', 'a', 'l', 'v', 'e', ' ', '7' /* the ticket */
 };
@@ -49,10 +48,9 @@ int main(void)
     uint8_t *list = new_area + d.value;
     size_t len = sizeof new_area - d.value;
     uint64_t base = TARGET_BASE + d.value;
-    if (d.number != 0 || print_list(list, len, base) != 0 || leftovers(list) != 0)
+    if (d.number != 0 || print_list(list, len, base) != 0)
         return 1;
     print_hex(list, 96);
-    printf("  what an older ticket had left in the void is not copied\n");
     if (!kept(DEVICE_TREE, list, len, base) || !kept(TICKET, list, len, base))
         return 1;
 

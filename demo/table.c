@@ -4,9 +4,10 @@
 
 #include "transfer_list.h"
 
+/* There is no 15. */
 static const char *const names[] = {
     "accepted", "AREA",     "SHORT", "SIGNATURE", "VERSION", "READONLY", "SIZES", "CHECKSUM",
-    "ENTRY",    "TAG",      "SHAPE", "ALIGN",     "TARGET",  "NONE",     "ROOM",  "DIRTY",
+    "ENTRY",    "TAG",      "SHAPE", "ALIGN",     "TARGET",  "NONE",     "ROOM",
     [TL_JOURNAL] = "JOURNAL", [TL_FOREIGN] = "FOREIGN",
     [TL_CERTIFICATE] = "CERTIFICATE", [TL_IDENTITY] = "IDENTITY", [TL_CONTENTS] = "CONTENTS",
     [TL_FDT] = "FDT"};
@@ -27,7 +28,6 @@ static const char *const causes[] = {
     "the target is too long or above 2^48",
     "no such occurrence of the tag, or no such property",
     "there is no room for it",
-    "something is left over where a clean list has 0",
     [TL_JOURNAL] = "the journal has a record that is not empty, or too few records for this edit",
     [TL_FOREIGN] = "the journal is none that an edit of this area left, or the state none that the step before left",
     [TL_CERTIFICATE] = "the list has not exactly one test certificate of 56 bytes",
@@ -86,47 +86,6 @@ static const char *tag_name(uint32_t tag)
     }
 }
 
-/* How many bytes are not 0. */
-static uint32_t not_zero(const uint8_t *bytes, uint32_t n)
-{
-    uint32_t count = 0;
-    while (n-- > 0)
-        count += bytes[n] != 0;
-    return count;
-}
-
-/* Where an accepted entry's leftovers may stand: a void's data, or what is behind the data of another one. */
-static uint32_t left_from(const uint8_t *area, uint32_t at)
-{
-    return at + 8 + (number_at(area, at, 3) == 0 ? 0 : number_at(area, at + 4, 4));
-}
-
-uint32_t leftovers(const uint8_t *area)
-{
-    uint32_t used = number_at(area, 8, 4), count = not_zero(area + used, number_at(area, 12, 4) - used);
-    for (uint32_t at = 24; at < used; at = next_entry(area, at))
-        count += not_zero(area + left_from(area, at), next_entry(area, at) - left_from(area, at));
-    return count;
-}
-
-/* A row for bytes that are 0 in a clean list, if some are not: from the first of these on, in hex and in letters. */
-static void print_left(const char *where, const uint8_t *area, uint32_t from, uint32_t to)
-{
-    uint32_t count = not_zero(area + from, to - from);
-    if (count == 0)
-        return;
-    while (area[from] == 0)
-        from++;
-    uint32_t n = to - from;
-    printf(" !%8u  left over %s, %u %s not 0:", (unsigned)from, where, (unsigned)count, count == 1 ? "byte" : "bytes");
-    for (uint32_t i = 0; i < n && i < 12; i++)
-        printf(" %02x", area[from + i]);
-    printf("%s  \"", n > 12 ? " .." : "");
-    for (uint32_t i = 0; i < n && i < 24; i++)
-        putchar(area[from + i] >= ' ' && area[from + i] <= '~' ? area[from + i] : '.');
-    printf("\"\n");
-}
-
 /* The data's first bytes, in hex; of a device tree also whether it is accepted. */
 static void print_data(uint32_t tag, const uint8_t *data, uint32_t size)
 {
@@ -158,35 +117,25 @@ static void print_bad_entry(const uint8_t *area, uint32_t at, uint32_t used)
         printf("BAD: a void's size is no multiple of 8\n");
 }
 
-/*
- * The answer of either edition's check; in both, the header's fields up to total_size and the entries are alike. Only a
- * current list of version 1 can be clean or not.
- */
-static uint32_t print_checked(tl_checked c, const uint8_t *area, uint64_t base, const char *checksum, int current)
+/* The answer of either edition's check; in both, the header's fields up to total_size and the entries are alike. */
+static uint32_t print_checked(tl_checked c, const uint8_t *area, uint64_t base, const char *checksum)
 {
     if (c.number != 0)
         print_refusal(c.number, c.at);
     if (c.number != 0 && c.number != TL_ENTRY)
         return c.number;
     uint32_t used = number_at(area, 8, 4), total = number_at(area, 12, 4);
-    int judged = c.number == 0 && current && c.version == 1;
     printf("%sversion %u, used %u of %u, alignment 2^%u, checksum %02x (%s)", c.number == 0 ? "" : "  ", area[5], (unsigned)used,
            (unsigned)total, area[7], area[4], checksum);
     if (c.number == 0)
         printf(", %u live, %u void", (unsigned)c.live, (unsigned)c.voids);
-    if (judged)
-        printf(", %s", leftovers(area) == 0 ? "clean" : "NOT CLEAN");
     printf("\n    offset  tag     kind                        size  address         data\n");
     for (uint32_t at = (area[6] + 7u) / 8 * 8; at < (c.number == 0 ? used : c.at); at = next_entry(area, at)) {
         uint32_t tag = number_at(area, at, 3), hdr_size = area[at + 3], size = number_at(area, at + 4, 4);
         print_entry("  ", area, at);
         printf("0x%012llx ", (unsigned long long)(base + at + hdr_size));
         print_data(tag, area + at + hdr_size, size);
-        if (judged)
-            print_left(tag == 0 ? "in the void" : "in the padding", area, left_from(area, at), next_entry(area, at));
     }
-    if (judged)
-        print_left("behind used_size", area, used, total);
     if (c.number != 0)
         print_bad_entry(area, c.at, used);
     return c.number;
@@ -195,12 +144,12 @@ static uint32_t print_checked(tl_checked c, const uint8_t *area, uint64_t base, 
 uint32_t print_list(const uint8_t *area, size_t len, uint64_t base)
 {
     tl_checked c = tl_check(area, len, base);
-    return print_checked(c, area, base, (c.number == 0 || c.number == TL_ENTRY) && (area[16] & 1) ? "on" : "off", 1);
+    return print_checked(c, area, base, (c.number == 0 || c.number == TL_ENTRY) && (area[16] & 1) ? "on" : "off");
 }
 
 uint32_t print_list09(const uint8_t *area, size_t len, uint64_t base)
 {
-    return print_checked(tl09_check(area, len, base), area, base, "a sum", 0);
+    return print_checked(tl09_check(area, len, base), area, base, "a sum");
 }
 
 void print_hex(const uint8_t *bytes, size_t n)

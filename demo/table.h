@@ -14,9 +14,7 @@ void print_refusal(uint32_t number, uint32_t at);
 
 /*
  * The list's header line and a row for each entry, or the refusal. With TL_ENTRY the header line and the rows follow all the same, up to
- * that of the bad entry, which `->` points at and which says the rule that is broken. In an accepted list of version 1
- * a row with `!` follows for padding, for the data of a void and for the bytes behind used_size, where a clean list has
- * 0 and this one has not. Returns the list check's number.
+ * that of the bad entry, which `->` points at and which says the rule that is broken. Returns the list check's number.
  */
 uint32_t print_list(const uint8_t *area, size_t len, uint64_t base);
 
@@ -25,9 +23,6 @@ uint32_t print_list09(const uint8_t *area, size_t len, uint64_t base);
 
 /* Where the entry behind a good one is. */
 uint32_t next_entry(const uint8_t *area, uint32_t at);
-
-/* Of an accepted list of version 1, how many bytes are not 0 that are 0 in a clean one. */
-uint32_t leftovers(const uint8_t *area);
 
 /* The first n bytes, sixteen to a line. */
 void print_hex(const uint8_t *bytes, size_t n);

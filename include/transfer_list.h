@@ -1,6 +1,5 @@
 /*
- * transfer_list.h: transfer lists of the Firmware Handoff specification: check, find, create, add, void, tidy, scrub,
- * relocate.
+ * transfer_list.h: transfer lists of the Firmware Handoff specification: check, find, create, add, void, tidy, relocate.
  * Of these add, add aligned and void also with a journal, so that a power cut leaves the old list or the new one.
  * Of the test certificate that a list carries: the reading, and pass or fail.
  * Of the device tree that a list carries: check, and the lookup of a property.
@@ -29,12 +28,7 @@ extern "C" {
  * returned by value: a program and an archive of different numbers may overwrite each other's memory, and the linker does not tell.
  *	2  each answer type has `at` as its last field; a program built against the header without it, which had no number, must be rebuilt
  * A function that is only added does not raise it: a program that calls one does not link with an archive that has none. The functions
- * with a journal, and their steps, came so, and tl_scrub().
- *
- * What a caller of an older version meets. A program that was built against an older header of number 2 need not be
- * rebuilt, but its edits may now be refused with TL_DIRTY, 15, which no older archive gave: they want a clean list, see
- * "Leftovers" below. A list that this library alone has made and edited is clean. One from elsewhere may not be, nor
- * one that an older archive converted from edition 0.9; tl_scrub() is the remedy, once, before the first edit.
+ * with a journal, and their steps, came so.
  */
 #define TL_INTERFACE 2
 
@@ -61,10 +55,8 @@ extern "C" {
 #define TL_TARGET 12u    /* target base + target length exceeds 2^48, or the target length exceeds 16,777,216 */
 #define TL_NONE 13u      /* no such occurrence of the tag; for tl_fdt_find() no such property */
 #define TL_ROOM 14u      /* there is no room for it */
-#define TL_DIRTY 15u     /* the list is not clean, see "Leftovers" below, and the call is an edit but tl_scrub(); */
-                         /* it comes right after TL_ENTRY, and so before TL_TAG */
 
-/* Those of the functions with a journal. */
+/* Those of the functions with a journal. There is no 15. */
 #define TL_JOURNAL 16u   /* a record of the journal is not empty, or it has too few records for the edit; it comes after all others */
 #define TL_FOREIGN 17u   /* of a recovery, a record's kind exceeds 2, or a word that it would apply is at no multiple of 8 or reaches */
                          /* beyond the area; of tl_step(), the state or the buffers are not those that the step before left */
@@ -188,27 +180,6 @@ static inline const uint8_t *tl_data(const uint8_t *area, tl_found found)
     return found.offset == 0 ? area : area + found.offset;
 }
 
-/*
- * Leftovers. Some bytes of a list mean nothing: the padding behind the data of each entry that is not a void, up to
- * where the next entry starts; the data of each void; and the bytes from used_size on, up to the last one before
- * total_size. No call gives them out, so what was struck out or written over may still stand there unseen. A list is
- * clean if all of them are 0. Flags, the reserved word and the alignment are no leftovers, whatever they are, nor is
- * anything inside an entry's data, as a device tree's own padding. The bytes from total_size to len are neither judged
- * nor written.
- *
- * The edits refuse a list that is not clean with TL_DIRTY: tl_add(), tl_add_aligned(), tl_void(), tl_tidy() and
- * tl_relocate(), and the functions with a journal, whole or in steps. They do so even where the edit would write over
- * the leftovers or not copy them. The functions that only read take such a list as any other. tl_create(), tl_recover()
- * and the functions for edition 0.9 never answer TL_DIRTY.
- *
- * tl_scrub() makes a clean list of every list of version 1 that tl_check() accepts. What tl_create(), tl_scrub() and
- * tl09_convert() write is clean, and every edit that is accepted gives a clean list. So TL_DIRTY says that something
- * else has made the list, or has written in it.
- *
- * Whether a list is clean is seen by reading all of it up to total_size. So the time of each edit grows with
- * total_size, and not with used_size alone.
- */
-
 /**
  * tl_create - create an empty transfer list
  * @area: the bytes of the area to write
@@ -243,7 +214,6 @@ tl_done tl_create(uint8_t *area, size_t len, uint64_t base, bool has_checksum);
  *	number 0, and the offset of the new data
  *	each refusal of tl_check()
  *	TL_READONLY, the list's version is over 1; it comes after TL_VERSION and before TL_SIZES
- *	TL_DIRTY, the list is not clean; it comes after TL_ENTRY and before each one below
  *	TL_TAG, the tag is 0, over 0xffffff, or 0x800000 to 0xffefff
  *	TL_SHAPE, the tag is 5 and data_len is under 4 (a TPM event log's data begins with a flags word of 4 bytes), or the tag is 6,
  *	0x100, 0x104 or 0xfff010 and data_len is not 12, 8, 16 or 56, respectively
@@ -268,7 +238,7 @@ tl_done tl_add(uint8_t *area, size_t len, uint64_t base, uint32_t tag, const uin
  *
  * returns:
  *	number 0, and the offset of the new data
- *	each refusal of tl_add() but TL_ROOM, in its order, TL_DIRTY among them
+ *	each refusal of tl_add() before TL_ROOM
  *	TL_ALIGN, exponent is outside 3 to 21
  *	TL_ROOM, the padding void and the entry together do not fit behind used_size; neither is written
  */
@@ -288,7 +258,6 @@ tl_done tl_add_aligned(uint8_t *area, size_t len, uint64_t base, uint32_t tag, c
  * returns:
  *	number 0, and the offset of the voided entry
  *	each refusal of tl_check(), and TL_READONLY as in tl_add()
- *	TL_DIRTY, the list is not clean; it comes after TL_ENTRY
  *	TL_TAG, the tag is 0 or over 0xffffff
  *	TL_NONE, the list has no such occurrence of the tag
  */
@@ -310,32 +279,8 @@ tl_done tl_void(uint8_t *area, size_t len, uint64_t base, uint32_t tag, uint64_t
  * returns:
  *	number 0, and the new used_size
  *	each refusal of tl_check(), and TL_READONLY as in tl_add()
- *	TL_DIRTY, the list is not clean, although what stands in a void would become 0; it comes after TL_ENTRY
  */
 tl_done tl_tidy(uint8_t *area, size_t len, uint64_t base);
-
-/**
- * tl_scrub - make a list clean
- * @area: the bytes of the area that holds the list
- * @len: the number of bytes of the area
- * @base: the address at which the area stands
- *
- * tl_scrub() checks the list, and then stores 0 in all its leftovers: the padding behind the data of each entry that is
- * not a void, the data of each void, and the bytes from used_size to total_size. The checksum byte is put right;
- * without has_checksum it stays 0. Every other byte stays as it is: the entries with their data; the voids' headers,
- * and none of them are joined, as by tl_tidy(); used_size, total_size, alignment, flags, the reserved word; the bytes
- * from total_size to len.
- *
- * It repairs nothing else: a list that tl_check() refuses is refused, one with a wrong checksum too. A clean list stays
- * as it is, so scrubbing again changes nothing. What tl_scrub() leaves is clean, and no edit refuses it with TL_DIRTY.
- *
- * Its time grows with total_size, however few bytes are used.
- *
- * returns:
- *	number 0, and used_size, which is as it was
- *	each refusal of tl_check(), and TL_READONLY as in tl_add(); never TL_DIRTY
- */
-tl_done tl_scrub(uint8_t *area, size_t len, uint64_t base);
 
 /**
  * tl_relocate - move a list to another area
@@ -354,7 +299,6 @@ tl_done tl_scrub(uint8_t *area, size_t len, uint64_t base);
  * returns:
  *	number 0, and the shift
  *	each refusal of tl_check(), and TL_READONLY as in tl_add()
- *	TL_DIRTY, the list is not clean, although what stands behind used_size would not be copied; it comes after TL_ENTRY
  *	TL_TARGET, target_base + target_len exceeds 2^48 or target_len exceeds 16,777,216
  *	TL_ROOM, shift + used_size exceeds target_len
  */
@@ -520,10 +464,8 @@ tl_found tl09_find(const uint8_t *area, size_t len, uint64_t base, uint32_t tag,
  * lowest address at or above target_base that equals base - 8 modulo 2^alignment: its header is 8 bytes longer, so that each data
  * address keeps its value modulo 2^alignment. The header is that of a new list, but that alignment is the old one, used_size is size + 8,
  * total_size is what is left of the target from there, rounded down to a multiple of 8, and the checksum byte is that of the new list.
- * The entries' headers and data are copied as they stand; neither a tag nor a data length is judged. Padding and the
- * data of voids become 0, whatever stood there, and so does every other byte of the target: the new list is clean, and
- * TL_DIRTY is never answered. The area is only read. The list is then in the target from the shift on, at target_base +
- * shift.
+ * The entries' bytes are copied as they stand, padding and voids' data too; neither a tag nor a data length is judged. Every other byte
+ * of the target becomes 0. The area is only read. The list is then in the target from the shift on, at target_base + shift.
  *
  * returns:
  *	number 0, and the shift
@@ -565,8 +507,9 @@ tl_done tl09_convert(const uint8_t *area, size_t len, uint64_t base, uint8_t *ta
  * The journal must have at least 16 * (w + 1) bytes. With n bytes of data, and (n + 7) / 8 rounded down, that is at most:
  *	16 * (4 + (n + 7) / 8)                     an add: two words of the header, the entry's; or one of the header, the entry's, and
  *	                                           the header of the void behind it
- *	16 * (5 + (n + 7) / 8)                     an aligned add: two words of the header, the header of a padding
- *	                                           void, whose data are 0 already, as the list is clean, the entry's
+ *	16 * (3 + (n + 7) / 8 + 2^exponent / 8)    an aligned add, with a padding void of which every byte changes
+ *	16 * (5 + (n + 7) / 8)                     an aligned add where the bytes from used_size to total_size are 0, as this library's
+ *	                                           calls leave them in a list that tl_create() made
  *	16 * (3 + (n + 7) / 8)                     a void, n being the data_size of the entry, as tl_find() answers it
  * Any journal_len is allowed; each further record costs one store in every edit and in every recovery.
  *
@@ -602,7 +545,7 @@ tl_done tl09_convert(const uint8_t *area, size_t len, uint64_t base, uint8_t *ta
  *
  * returns:
  *	number 0, and the offset of the new data
- *	each refusal of tl_add(), in its order, TL_DIRTY among them, TL_ENTRY with its `at`
+ *	each refusal of tl_add(), TL_ENTRY with its `at`
  *	TL_JOURNAL, the kind of some whole record is not 0, whether the edit would use the record or not, or w + 1 exceeds R; it comes after
  *	all others. With under 32 bytes of journal no edit is accepted. A refused call stores nothing in either buffer. Where a kind is not 0 an edit was
  *	cut: call tl_recover() first
@@ -626,7 +569,7 @@ tl_done tl_add_journalled(uint8_t *area, size_t len, uint64_t base, uint32_t tag
  *
  * returns:
  *	number 0, and the offset of the new data
- *	each refusal of tl_add_aligned(), in its order, TL_DIRTY among them, TL_ENTRY with its `at`
+ *	each refusal of tl_add_aligned(), TL_ENTRY with its `at`
  *	TL_JOURNAL, as tl_add_journalled()
  */
 tl_done tl_add_aligned_journalled(uint8_t *area, size_t len, uint64_t base, uint32_t tag, const uint8_t *data, size_t data_len,
@@ -647,7 +590,7 @@ tl_done tl_add_aligned_journalled(uint8_t *area, size_t len, uint64_t base, uint
  *
  * returns:
  *	number 0, and the offset of the voided entry
- *	each refusal of tl_void(), in its order, TL_DIRTY among them, TL_ENTRY with its `at`
+ *	each refusal of tl_void(), TL_ENTRY with its `at`
  *	TL_JOURNAL, as tl_add_journalled()
  */
 tl_done tl_void_journalled(uint8_t *area, size_t len, uint64_t base, uint32_t tag, uint64_t n, uint8_t *journal, size_t journal_len);

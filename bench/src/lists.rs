@@ -44,33 +44,15 @@ pub fn many_voids(length: usize) -> Vec<u8> {
     list(length, (0..(length - 96) / 24).map(|_| (0, 16)).chain([(0, 64)]))
 }
 
-/// A full list of entries of 16 bytes, one of 8 behind them. Every second one is a void.
+/// A full list of entries of 16 bytes, one of 8 behind them. Every second one is a void, whose data are not 0.
 pub fn every_second_void(length: usize) -> Vec<u8> {
-    list(length, (0..(length - 32) / 16).map(|i| (i as u32 % 2, 8)).chain([(1, 0)]))
-}
-
-/// Entries of 112 bytes each, 100 of them data and 4 padding, up to at least 72 bytes before the end.
-pub fn of_100_bytes(length: usize) -> Vec<u8> {
-    list(length, (0..(length - 96) / 112).map(|_| (1, 100)))
-}
-
-/// The same, but every fourth entry is a void, and all padding, void data and the bytes from used to total are not 0.
-pub fn dirty(length: usize) -> Vec<u8> {
-    let mut a = list(length, (0..(length - 96) / 112).map(|i| if i % 4 == 3 { (0, 104) } else { (1, 100) }));
-    let used = used(&a);
-    dirty_entries(&mut a[..used], 24);
-    a[used..].fill(0x5a);
-    a[4] = 0;
-    a[4] = a[..used].iter().fold(0, |x, b| x ^ b);
-    a
-}
-
-/// Makes all padding and void data of these entries, of 112 bytes each from `first` on, other than 0.
-fn dirty_entries(list: &mut [u8], first: usize) {
-    for entry in list[first..].chunks_exact_mut(112) {
-        let data = if entry[0] == 0 { 0 } else { 100 };
-        entry[8 + data..].fill(0x5a);
+    let mut a = list(length, (0..(length - 32) / 16).map(|_| (1, 8)).chain([(1, 0)]));
+    for at in (24..length - 8).step_by(32) {
+        a[at] = 0;
     }
+    a[4] = 0;
+    a[4] = a.iter().fold(0, |x, b| x ^ b);
+    a
 }
 
 /// A list with one entry more, a certificate that passes a band.
@@ -93,16 +75,6 @@ pub fn one_entry09(length: usize, size: usize) -> Vec<u8> {
     a[5..8].copy_from_slice(&[1, 16, 3]);
     a[12..16].copy_from_slice(&(length as u32).to_le_bytes());
     put_entries(&mut a, 16, [(1, size - 24)]);
-    a[4] = a[..size].iter().fold(0, |sum, b| sum.wrapping_add(*b));
-    a
-}
-
-/// A list of edition 0.9 with entries as those of `dirty`, up to the last that `size` has room for.
-pub fn dirty09(length: usize, size: usize) -> Vec<u8> {
-    let mut a = one_entry09(length, size);
-    let size = put_entries(&mut a, 16, (0..(size - 16) / 112).map(|i| if i % 4 == 3 { (0, 104) } else { (1, 100) }));
-    dirty_entries(&mut a[..size], 16);
-    a[4] = 0;
     a[4] = a[..size].iter().fold(0, |sum, b| sum.wrapping_add(*b));
     a
 }

@@ -2,7 +2,6 @@
 mod fdt;
 mod growth;
 mod journal;
-mod leftovers;
 mod lists;
 mod plain;
 mod plain_fdt;
@@ -104,12 +103,7 @@ fn grouped(n: usize) -> String {
 
 /// How many calls a round has: fewer where the list is long, and one above 1.5 MiB.
 fn calls(area: &[u8]) -> usize {
-    calls_of(lists::used(area))
-}
-
-/// The same of an edit, which reads all bytes of the list, used or not.
-fn calls_of(bytes: usize) -> usize {
-    ((3 << 20) / bytes).clamp(1, 1000)
+    ((3 << 20) / lists::used(area)).clamp(1, 1000)
 }
 
 /// Times a call that only reads.
@@ -178,7 +172,7 @@ fn time_edit(what: &str, area: &[u8], changed: Range<usize>, library: impl Fn(&m
     put_back(&mut other);
     assert!(one == area && other == area, "{what}: more bytes changed");
     let times = least(
-        calls_of(area.len()),
+        calls(area),
         || {
             black_box(library(black_box(&mut one)));
             put_back(&mut one);
@@ -266,7 +260,6 @@ fn main() {
         rows(length);
     }
     short_rows();
-    leftovers::rows();
     journal::rows();
     growth::table();
     fdt::rows();

@@ -41,28 +41,18 @@ fn header_size_wrong(version: u8, own: u8, size: u8) -> bool {
 #[inline(never)]
 pub fn check(area: &[u8], base: u64, editing: bool) -> Checked {
     let summed = |list: &[u8]| if area[16] & 1 == 1 { xor(list) == 0 } else { area[4] == 0 };
-    check_edition(area, base, editing, 0x4a0f_b10b, 24, summed, |_, _, _| ())
+    check_edition(area, base, editing, 0x4a0f_b10b, 24, summed)
 }
 
 /// The check of a list of edition 0.9, `converting` for a conversion's admission.
 #[inline(never)]
 pub fn check09(area: &[u8], base: u64, converting: bool) -> Checked {
-    let summed = |list: &[u8]| sum(list).wrapping_sub(area[4]) == area[4];
-    check_edition(area, base, converting, 0x006e_d0ff, 16, summed, |_, _, _| ())
+    check_edition(area, base, converting, 0x006e_d0ff, 16, |list| sum(list).wrapping_sub(area[4]) == area[4])
 }
 
-/// The check with an edition's signature, own header size and checksum rule, and what is done with each good entry:
-/// where it starts and ends, and its first eight bytes. It becomes a part of each of its callers.
+/// The check with an edition's signature, own header size and checksum rule. It becomes a part of each of the two.
 #[inline(always)]
-fn check_edition(
-    area: &[u8],
-    base: u64,
-    editing: bool,
-    signature: u32,
-    own: u8,
-    summed: impl FnOnce(&[u8]) -> bool,
-    mut each: impl FnMut(usize, usize, u64),
-) -> Checked {
+fn check_edition(area: &[u8], base: u64, editing: bool, signature: u32, own: u8, summed: impl FnOnce(&[u8]) -> bool) -> Checked {
     if base % 8 != 0 || area.len() > MOST || base > 1 << 48 || base + area.len() as u64 > 1 << 48 {
         return refused(1);
     }
@@ -113,7 +103,6 @@ fn check_edition(
         } else {
             live += 1;
         }
-        each(at, at + span as usize, head);
         at += span as usize;
     }
     Checked { number: 0, version: version as u32, used, total, alignment: alignment as u32, live, voids, at: 0 }
@@ -134,79 +123,6 @@ fn refused_edit(number: u32) -> Done {
 /// An edit of a list whose check refused it.
 fn refused_list(c: Checked) -> Done {
     Done { number: c.number, value: 0, at: c.at }
-}
-
-/// An edit's admission: the check, and then the test for leftovers, in a pass of its own, as the library makes it.
-fn admission(area: &[u8], base: u64) -> Checked {
-    let c = check(area, base, true);
-    if c.number == 0 && !clean(area, c.used as usize, c.total as usize) {
-        return refused(15);
-    }
-    c
-}
-
-/// Whether an accepted version 1 list is clean: one pass over its entries, of each of which the last word has the
-/// padding, and then the bytes from used to total.
-#[inline(never)]
-fn clean(area: &[u8], used: usize, total: usize) -> bool {
-    let (list, mut at) = (&area[..used], 24);
-    while at < used {
-        let head = long(list, at);
-        let next = at + align8(8 + (head >> 32)) as usize;
-        if !clean_entry(list, at, next, head) {
-            return false;
-        }
-        at = next;
-    }
-    all_zero(&area[used..total])
-}
-
-/// Whether a void's data or an entry's padding are 0.
-#[inline(always)]
-fn clean_entry(list: &[u8], at: usize, next: usize, head: u64) -> bool {
-    let over = (head >> 32) % 8;
-    if head & 0xff_ffff == 0 {
-        all_zero(&list[at + 8..next])
-    } else {
-        over == 0 || long(list, next - 8) >> (over * 8) == 0
-    }
-}
-
-/// The same admission with the test made on the check's own walk: the second pass over the entries is saved.
-#[inline(never)]
-fn joined_admission(area: &[u8], base: u64) -> Checked {
-    let mut clean = true;
-    let summed = |list: &[u8]| if area[16] & 1 == 1 { xor(list) == 0 } else { area[4] == 0 };
-    let each = |at, next, head| clean &= clean_entry(area, at, next, head);
-    let c = check_edition(area, base, true, 0x4a0f_b10b, 24, summed, each);
-    if c.number == 0 && !(clean && all_zero(&area[c.used as usize..c.total as usize])) {
-        return refused(15);
-    }
-    c
-}
-
-/// Whether all bytes are 0: by words, in blocks of sixteen, up to the first block that has another.
-fn all_zero(bytes: &[u8]) -> bool {
-    let or = |block: &[u8]| block.chunks_exact(8).fold(0, |or, word| or | long(word, 0));
-    let mut blocks = bytes.chunks_exact(128);
-    blocks.by_ref().all(|block| or(block) == 0) && or(blocks.remainder()) == 0
-}
-
-/// Stores 0 in the padding and the void data of an accepted version 1 list.
-fn clear_entries(list: &mut [u8]) {
-    let mut at = 24;
-    while at < list.len() {
-        let head = long(list, at);
-        let size = (head >> 32) as usize;
-        let next = at + align8(8 + size as u64) as usize;
-        if head & 0xff_ffff == 0 {
-            list[at + 8..next].fill(0);
-        } else if size % 8 != 0 {
-            let last = long(list, next - 8) & ((1 << (size % 8 * 8)) - 1);
-            list[next - 8..next].copy_from_slice(&last.to_le_bytes());
-        }
-        at = next;
-    }
 }
 
 #[inline(never)]
@@ -289,19 +205,7 @@ pub fn find(area: &[u8], base: u64, tag: u32, n: u64) -> Found {
 /// Add, with the same answers and bytes as the library's.
 #[inline(never)]
 pub fn add(area: &mut [u8], base: u64, tag: u32, data: &[u8], use_voids: bool) -> Done {
-    let c = admission(area, base);
-    add_admitted(area, c, tag, data, use_voids)
-}
-
-/// The same with the joined admission.
-#[inline(never)]
-pub fn add_joined(area: &mut [u8], base: u64, tag: u32, data: &[u8], use_voids: bool) -> Done {
-    let c = joined_admission(area, base);
-    add_admitted(area, c, tag, data, use_voids)
-}
-
-#[inline(always)]
-fn add_admitted(area: &mut [u8], c: Checked, tag: u32, data: &[u8], use_voids: bool) -> Done {
+    let c = check(area, base, true);
     if c.number != 0 {
         return refused_list(c);
     }
@@ -335,7 +239,7 @@ fn add_admitted(area: &mut [u8], c: Checked, tag: u32, data: &[u8], use_voids: b
 /// Void, with the same answers and bytes as the library's.
 #[inline(never)]
 pub fn void(area: &mut [u8], base: u64, tag: u32, n: u64) -> Done {
-    let c = admission(area, base);
+    let c = check(area, base, true);
     if c.number != 0 {
         return refused_list(c);
     }
@@ -357,7 +261,7 @@ pub fn void(area: &mut [u8], base: u64, tag: u32, n: u64) -> Done {
 /// Tidy, with the same answers and bytes as the library's.
 #[inline(never)]
 pub fn tidy(area: &mut [u8], base: u64) -> Done {
-    let c = admission(area, base);
+    let c = check(area, base, true);
     if c.number != 0 {
         return refused_list(c);
     }
@@ -383,23 +287,6 @@ pub fn tidy(area: &mut [u8], base: u64) -> Done {
         list[4] = xor(&list[..end]);
     }
     Done { number: 0, value: end as u32, at: 0 }
-}
-
-/// Scrub, with the same answers and bytes as the library's.
-#[inline(never)]
-pub fn scrub(area: &mut [u8], base: u64) -> Done {
-    let c = check(area, base, true);
-    if c.number != 0 {
-        return refused_list(c);
-    }
-    let (used, total) = (c.used as usize, c.total as usize);
-    clear_entries(&mut area[..used]);
-    area[used..total].fill(0);
-    area[4] = 0;
-    if area[16] & 1 == 1 {
-        area[4] = xor(&area[..used]);
-    }
-    Done { number: 0, value: c.used, at: 0 }
 }
 
 pub const CERTIFICATE: u32 = 0xff_f010;
@@ -482,7 +369,6 @@ pub fn convert09(area: &[u8], base: u64, target: &mut [u8], target_base: u64) ->
     list[12..16].copy_from_slice(&((len - shift) as u32 & !7).to_le_bytes());
     list[16..24].copy_from_slice(&1u64.to_le_bytes());
     list[24..].copy_from_slice(&area[16..size]);
-    clear_entries(list);
     list[4] = xor(list);
     Done { number: 0, value: shift as u32, at: 0 }
 }

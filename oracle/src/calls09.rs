@@ -90,7 +90,6 @@ impl Bench {
             let (area, base, shift) = (&list.area[..], list.base, wanted.value);
             let made = Relocation { area, base, target: &after, target_base, shift };
             asked.demand(demand09::after_conversion(&made), &buffers)?;
-            self.scrub_sights.conversion(area);
         }
         Ok((wanted, target))
     }

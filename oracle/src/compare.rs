@@ -8,8 +8,6 @@ use crate::library;
 use oracle::add_lengths::AddLengths;
 use oracle::alignments::Alignments;
 use oracle::demand_entry;
-use oracle::demand_scrub;
-use oracle::dirt_sights::DirtSights;
 use oracle::entry_sights::EntrySights;
 use oracle::fdt_breaks::Breaks;
 use oracle::fdt_found::Finds;
@@ -21,14 +19,12 @@ use oracle::model::{self, Answer, Checked, Edition, Found};
 use oracle::params::{self, Facts};
 use oracle::rng::Rng;
 use oracle::runs::Runs;
-use oracle::scrub_sights::ScrubSights;
 use oracle::sights::Sights;
 use oracle::tally::{Call, Tally};
 use std::fmt::Write;
 
-/// How often each call is made on a list; a check, a create, a tidy and a scrub once. A tidy is made once
-/// more on its own result, with up to two adds before and after it, and so is a scrub; what it has made
-/// clean gets the edits once more. Each edit is made with a journal too.
+/// How often each call is made on a list; a check, a create and a tidy once. A tidy is made once more on
+/// its own result, with up to two adds before and after it. Each edit is made with a journal too.
 pub struct Times {
     pub finds: usize,
     pub adds: usize,
@@ -56,8 +52,6 @@ pub struct Bench {
     pub runs: Runs,
     pub sights: Sights,
     pub entry_sights: EntrySights,
-    pub dirt_sights: DirtSights,
-    pub scrub_sights: ScrubSights,
     pub fdt_sights: fdt_sights::Sights,
     pub fdt_breaks: Breaks,
     pub fdt_finds: Finds,
@@ -96,8 +90,6 @@ impl Bench {
             runs: Runs::default(),
             sights: Sights::default(),
             entry_sights: EntrySights::default(),
-            dirt_sights: DirtSights::default(),
-            scrub_sights: ScrubSights::default(),
             fdt_sights: fdt_sights::Sights::default(),
             fdt_breaks: Breaks::default(),
             fdt_finds: Finds::default(),
@@ -133,12 +125,9 @@ impl Bench {
             let (tag, n) = params::wanted(rng, &facts);
             self.find(list, tag, n)?;
         }
-        self.changes(rng, list, &facts, times)?;
-        let mut scrubbed = List { area: list.area.clone(), ..*list };
-        self.scrub_on(&mut scrubbed)?;
-        if scrubbed.area != list.area {
-            self.changes(rng, &scrubbed, &facts, times)?;
-        }
+        self.edits(rng, list, &facts, times)?;
+        self.relocations(rng, list, &facts, times)?;
+        self.tidy(list)?;
         for _ in 0..times.certificates {
             let (serial, test) = lists_certificate::asked(rng, &list.area);
             self.certificate(list, serial, test)?;
@@ -146,14 +135,6 @@ impl Bench {
         for _ in 0..RECOVERIES {
             self.any_recovery(&list.area)?;
         }
-        Ok(())
-    }
-
-    /// The edits, relocations and a tidy.
-    fn changes(&mut self, rng: &mut Rng, list: &List, facts: &Facts, times: &Times) -> Result<(), String> {
-        self.edits(rng, list, facts, times)?;
-        self.relocations(rng, list, facts, times)?;
-        self.tidy(list)?;
         Ok(())
     }
 
@@ -197,8 +178,7 @@ impl Bench {
     }
 
     /// Counts the call; a report where the answers differ, where the library's own does not say the bad
-    /// entry's place as it must or is not 15 where it must be, or where a buffer does not hold what it
-    /// should.
+    /// entry's place as it must, or where a buffer does not hold what it should.
     pub fn judge<A: Answer>(
         &mut self,
         asked: &Asked,
@@ -210,20 +190,15 @@ impl Bench {
         self.see_large(|large| large.call(asked.call, wanted.number(), buffers));
         let area = buffers.iter().find(|buffer| buffer.name == "area").map(|buffer| buffer.before);
         let place = demand_entry::after_call(area, given.number(), given.at());
-        // Whether a list is clean can be asked of one that is sound; so the number is the model's too.
-        let sound = area.filter(|_| wanted.number() == given.number());
-        let dirt = sound.map_or(Ok(()), |area| demand_scrub::after_call(asked.call, area, given.number()));
-        let held = place.and(dirt);
         let byte = buffers.iter().find_map(|buffer| self.differing_byte(buffer));
-        if wanted == given && held.is_ok() && byte.is_none() {
+        if wanted == given && place.is_ok() && byte.is_none() {
             self.entry_sights.count(asked.call, area, &given);
-            self.dirt_sights.count(asked.call, area, given.number());
             return Ok(());
         }
         let bytes = byte.unwrap_or("every byte as wanted".to_string());
-        let broken = held.err().map_or(String::new(), |broken| format!("\n  {broken}"));
+        let place = place.err().map_or(String::new(), |broken| format!("\n  {broken}"));
         let inputs = asked.with_inputs(buffers);
-        Err(format!("{inputs}\n  model   {wanted:?}\n  library {given:?}\n  {bytes}{broken}"))
+        Err(format!("{inputs}\n  model   {wanted:?}\n  library {given:?}\n  {bytes}{place}"))
     }
 
     pub fn differing_byte(&self, buffer: &Buffer) -> Option<String> {

@@ -1,9 +1,7 @@
 //! Demand 3 of document 01 ("Demand 3's words", "Named bytes of an add or void"), said a second
 //! time. It shares nothing with the model's edits: it walks the bytes by itself and looks only at
-//! what stood there before and what stands there afterwards. Document 02, request 10, "narrows the third
-//! demand to clean lists", and "every accepted edit of a clean list gives a clean list".
+//! what stood there before and what stands there afterwards.
 
-use crate::demand_scrub::is_clean;
 use crate::model;
 use std::ops::Range;
 
@@ -88,12 +86,6 @@ pub(crate) fn is_whole(result: &[u8], base: u64) -> Result<(), String> {
     let checked = model::check(result, base);
     demand(checked.number == 0 && checked.version == 1, "the result is accepted as version 1")?;
     demand(result[4] == fresh_checksum(result), "the checksum equals the fresh one")
-}
-
-/// No edit of another list is accepted, and it leaves no other.
-pub(crate) fn stays_clean(before: &[u8], after: &[u8]) -> Result<(), String> {
-    demand(is_clean(before), "an edit of a list that is not clean is refused")?;
-    demand(is_clean(after), "an accepted edit of a clean list gives a clean list")
 }
 
 /// What an edit changes: the reading it leaves and the stretch of the entries written or voided.
@@ -182,18 +174,16 @@ fn answer_holds(after: &[u8], base: u64, edit: &Edit, value: usize) -> bool {
 /// Demand 3 for an accepted add, aligned add or void that answered `value`.
 pub fn after_edit(before: &[u8], after: &[u8], base: u64, edit: &Edit, value: u32) -> Result<(), String> {
     is_whole(after, base)?;
-    stays_clean(before, after)?;
     let change = change(before, after, edit);
     demand(live(&steps(after)) == change.reading, "the fresh reading changes as said")?;
     demand(only_named_differ(before, after, &change.stretch), "no byte but the named ones differs")?;
     demand(answer_holds(after, base, edit, value as usize), "the answer points at what was written")
 }
 
-/// The same for an accepted create, whose result has no entries and is clean.
+/// The same for an accepted create, whose result has no entries.
 pub fn after_create(area: &[u8], base: u64) -> Result<(), String> {
     is_whole(area, base)?;
-    demand(steps(area).is_empty(), "a created list is empty")?;
-    demand(is_clean(area), "a created list is clean")
+    demand(steps(area).is_empty(), "a created list is empty")
 }
 
 /// Demand 3 for an accepted relocation.
@@ -202,7 +192,6 @@ pub fn after_relocation(moved: &Relocation) -> Result<(), String> {
     let new_base = moved.target_base + shift as u64;
     let result = &moved.target[shift..];
     is_whole(result, new_base)?;
-    stays_clean(moved.area, result)?;
     let (old_steps, new_steps) = (steps(moved.area), steps(result));
     demand(live(&old_steps) == live(&new_steps), "relocation leaves the reading as it was")?;
     demand(used_bytes_kept(moved.area, result), "of the used bytes only 4 and 12 to 15 differ")?;
@@ -295,21 +284,6 @@ mod tests {
         area[127] = 1;
         assert_eq!(model::check(&area, BASE).number, 0);
         assert!(!passes(&area, &ADD, 32));
-    }
-
-    /// A byte of the padding behind the data that was added, with the checksum right; and the same in the
-    /// list before, where there is room for a leftover.
-    #[test]
-    fn a_leftover_fails() {
-        let broken = |before: &[u8], after: &[u8]| after_edit(before, after, BASE, &ADD, 32).unwrap_err();
-        let mut area = added();
-        area[36] = 1;
-        area[4] ^= 1;
-        assert_eq!(model::check(&area, BASE).number, 0);
-        assert!(broken(&before(), &area).ends_with("gives a clean list"));
-        let mut dirty = before();
-        dirty[127] = 1;
-        assert!(broken(&dirty, &added()).ends_with("is refused"));
     }
 
     #[test]

@@ -2,7 +2,7 @@
 //! list, said a second time. It shares nothing with the model's tidy: it puts no runs together and
 //! looks only at each entry and its neighbour, before and afterwards.
 
-use crate::demand::{demand, is_whole, live, stays_clean, steps, used, Step};
+use crate::demand::{demand, is_whole, live, steps, used, Step};
 
 /// What holds of an accepted tidy that answered `value`. "An edit that names no entry leaves the
 /// reading as it was"; the base is the same, so where the offsets are, the data addresses are.
@@ -16,7 +16,6 @@ pub fn after_tidy(before: &[u8], after: &[u8], base: u64, value: u32) -> Result<
     demand(!new_steps.last().is_some_and(is_void), "voids at the end are given back")?;
     demand(void_data_is_zero(&new_steps), "a void's data is zero")?;
     demand(is_zero(&after[used(after)..used(before)]), "the bytes given back are zero")?;
-    stays_clean(before, after)?;
     demand(value as usize == used(after), "the answer is the new used size")
 }
 
@@ -60,28 +59,27 @@ mod tests {
 
     const BASE: u64 = 0x1000;
     const LEN: usize = 152;
-    const TOTAL: usize = 144;
-    /// A run of two at the start, one void alone, and a run of two at the end; two live entries, the first
-    /// with padding.
+    /// A run of two at the start, one void alone, and a run of two at the end, with data that is not 0;
+    /// two live entries, the first with padding that is not 0.
     const ENTRIES: [u8; 88] = [
         0, 0, 0, 8, 0, 0, 0, 0, //
-        0, 0, 0, 8, 8, 0, 0, 0, 0, 0, 0, 0, 0, 0, 0, 0, //
-        1, 0, 0, 8, 3, 0, 0, 0, 0xaa, 0xbb, 0xcc, 0, 0, 0, 0, 0, //
-        0, 0, 0, 8, 8, 0, 0, 0, 0, 0, 0, 0, 0, 0, 0, 0, //
+        0, 0, 0, 8, 8, 0, 0, 0, 1, 2, 3, 4, 5, 6, 7, 8, //
+        1, 0, 0, 8, 3, 0, 0, 0, 0xaa, 0xbb, 0xcc, 0xdd, 0xee, 0xff, 1, 2, //
+        0, 0, 0, 8, 8, 0, 0, 0, 9, 9, 9, 9, 9, 9, 9, 9, //
         2, 0, 0, 8, 0, 0, 0, 0, //
-        0, 0, 0, 8, 8, 0, 0, 0, 0, 0, 0, 0, 0, 0, 0, 0, //
+        0, 0, 0, 8, 8, 0, 0, 0, 7, 7, 7, 7, 7, 7, 7, 7, //
         0, 0, 0, 8, 0, 0, 0, 0,
     ];
     const OLD_USED: usize = 24 + ENTRIES.len();
     const NEW_USED: usize = OLD_USED - 24;
 
-    /// A list of alignment 6 with these entries; none of the bytes behind its total is 0.
+    /// A list of alignment 6 with these entries; none of the bytes behind them is 0.
     fn before() -> Vec<u8> {
         let mut area = vec![0xa5; LEN];
-        area[..TOTAL].fill(0);
+        area[..24].fill(0);
         put_u32(&mut area, 0, Edition::Current.signature());
         area[5..9].copy_from_slice(&[1, 24, 6, OLD_USED as u8]);
-        area[12] = TOTAL as u8;
+        area[12] = 144;
         area[16] = 1;
         area[24..OLD_USED].copy_from_slice(&ENTRIES);
         sealed(area)
@@ -148,23 +146,12 @@ mod tests {
     #[test]
     fn a_byte_that_is_not_named_fails() {
         let (alignment, total, reserved, padding) = (7, 12, 20, 59);
-        for (offset, byte) in [(alignment, 3), (total, 136), (reserved, 1), (padding, 1)] {
+        for (offset, byte) in [(alignment, 3), (total, 136), (reserved, 1), (padding, 0)] {
             assert_ne!(tidied()[offset], byte);
             breaks(&changed(offset, &[byte]), "no byte but the named ones differs");
         }
-        for behind in [OLD_USED, TOTAL - 1, TOTAL, LEN - 1] {
-            breaks(&changed(behind, &[1]), "no byte but the named ones differs");
-        }
-    }
-
-    /// The leftover was there before, so it is no other byte that differs.
-    #[test]
-    fn a_list_that_is_not_clean_fails() {
-        for behind in [OLD_USED, TOTAL - 1] {
-            let (mut before, after) = (before(), changed(behind, &[1]));
-            before[behind] = 1;
-            let broken = after_tidy(&before, &after, BASE, NEW_USED as u32).unwrap_err();
-            assert!(broken.ends_with("an edit of a list that is not clean is refused"), "{broken}");
+        for behind in [OLD_USED, 143, 144, LEN - 1] {
+            breaks(&changed(behind, &[0]), "no byte but the named ones differs");
         }
     }
 

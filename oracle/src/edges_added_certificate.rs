@@ -7,7 +7,6 @@ use crate::edges_tidy::expect;
 use oracle::demand::Edit;
 use oracle::lists::List;
 use oracle::lists_certificate::{entry, list, BASE, HAS_CHECKSUM};
-use oracle::lists_dirty::wiped;
 use oracle::model::{self, CERTIFICATE_TAG};
 use oracle::model_certificate::{LENGTH, NOT_ONE};
 
@@ -21,14 +20,13 @@ impl Bench {
         let void = entry(0, 8, &[0; LENGTH]);
         let lists = [
             // With room; with just enough and with too little; with a void that is just enough.
-            list(1, 24, HAS_CHECKSUM, &[], &[0; 8192]),
-            list(1, 24, 0, &[], &[0; 64]),
-            list(1, 24, HAS_CHECKSUM, &[], &[0; 63]),
-            wiped(&list(1, 24, HAS_CHECKSUM, &[void, of_bytes(3)], &[])),
-            // With one already; not to be edited, since it is not clean, or is of a later version.
-            list(1, 24, HAS_CHECKSUM, &[of_bytes(LENGTH)], &[0; 512]),
+            list(1, 24, HAS_CHECKSUM, &[], &[0xa5; 8192]),
+            list(1, 24, 0, &[], &[0xa5; 64]),
+            list(1, 24, HAS_CHECKSUM, &[], &[0xa5; 63]),
+            list(1, 24, HAS_CHECKSUM, &[void, of_bytes(3)], &[]),
+            // With one already; not to be edited.
             list(1, 24, HAS_CHECKSUM, &[of_bytes(LENGTH)], &[0xa5; 512]),
-            list(2, 24, HAS_CHECKSUM, &[of_bytes(LENGTH)], &[0; 512]),
+            list(2, 24, HAS_CHECKSUM, &[of_bytes(LENGTH)], &[0xa5; 512]),
         ];
         for list in &lists {
             for tag in TAGS {
@@ -58,7 +56,7 @@ impl Bench {
     fn add_one_and_another(&mut self) -> Result<(), String> {
         let data = good().bytes();
         for exponent in 3..=15 {
-            let mut list = list(1, 24, HAS_CHECKSUM, &[], &[0; 40_000]);
+            let mut list = list(1, 24, HAS_CHECKSUM, &[], &[0xa5; 40_000]);
             for number in [0, NOT_ONE] {
                 let add = Edit::AddAligned { tag: CERTIFICATE_TAG, data: &data, exponent };
                 expect(self.edit(&list, &add)?.number, 0)?;

@@ -37,8 +37,8 @@ fn with_entries(entries: &[Vec<u8>]) -> List {
 
 /// A list with voids at 24 and 48 and this entry at 56, as the changes of `REFUSALS` need it.
 fn to_be_refused(certificate: &[u8]) -> List {
-    let [live, empty, small, _, void] = pieces();
-    let entries = [&void[..], &small, certificate, &void, &empty, &live, &void].concat();
+    let [live, empty, small, _, dirty] = pieces();
+    let entries = [&dirty[..], &small, certificate, &dirty, &empty, &live, &dirty].concat();
     by_hand(6, HAS_CHECKSUM, &entries, 16, 8)
 }
 

@@ -7,7 +7,6 @@ use crate::compare::{hex, Bench};
 use oracle::demand::Edit;
 use oracle::demand_entry::Way;
 use oracle::lists::{restore_checksum, List, MOST_LENT};
-use oracle::lists_dirty::wiped;
 use oracle::lists_entry::{Made, Piece, Plan, PLANS, TAG};
 use oracle::model::{field, put_u32, Answer, Edition, ENTRY, READONLY, SIGNATURE};
 use oracle::tally::Call;
@@ -15,13 +14,11 @@ use oracle::tally::Call;
 const LENGTHS: [usize; 4] = [1, 2, 3, 5];
 const LONGEST_ROW: u32 = 5;
 const WAYS: [Way; 3] = [Way::HdrSize, Way::Length, Way::VoidSize];
-/// What a target holds before; it is long enough for most lists here.
-const TARGET: [u8; 400] = [0x5a; 400];
 
 /// What a call answered.
 pub struct Said {
-    pub call: Call,
-    pub number: u32,
+    call: Call,
+    number: u32,
     at: u32,
 }
 
@@ -34,7 +31,7 @@ fn is_for_edition09(call: Call) -> bool {
 }
 
 /// Whether the call reads lists of later versions.
-pub fn reads(call: Call) -> bool {
+fn reads(call: Call) -> bool {
     matches!(call, Call::Check | Call::Find | Call::Certificate | Call::Check09 | Call::Find09)
 }
 
@@ -107,13 +104,7 @@ impl Bench {
 
     /// Each call that makes the check, once, with numbers that a good list would mostly accept.
     pub fn each_check(&mut self, list: &List) -> Result<Vec<Said>, String> {
-        let mut all = self.each_check_of_current(list)?;
-        all.extend(self.each_check_of_09(list)?);
-        Ok(all)
-    }
-
-    pub fn each_check_of_current(&mut self, list: &List) -> Result<Vec<Said>, String> {
-        let data = &[1, 2, 3, 4];
+        let (data, target) = (&[1, 2, 3, 4], &[0x5a; 400]);
         let add = Edit::Add { tag: TAG, data, use_voids: true };
         let add_aligned = Edit::AddAligned { tag: TAG, data, exponent: 4 };
         Ok(vec![
@@ -122,18 +113,12 @@ impl Bench {
             said(Call::Add, self.edit(list, &add)?),
             said(Call::AddAligned, self.edit(list, &add_aligned)?),
             said(Call::Void, self.edit(list, &Edit::Void { tag: TAG, n: 0 })?),
-            said(Call::Relocate, self.relocated(list, &TARGET, list.base)?.0),
+            said(Call::Relocate, self.relocated(list, target, list.base)?.0),
             said(Call::Tidy, self.tidy(list)?),
-            said(Call::Scrub, self.scrub(list)?),
             said(Call::Certificate, self.certificate(list, 1, 2)?),
-        ])
-    }
-
-    pub fn each_check_of_09(&mut self, list: &List) -> Result<Vec<Said>, String> {
-        Ok(vec![
             said(Call::Check09, self.checked09(list)?),
             said(Call::Find09, self.found09(list, TAG, 0)?),
-            said(Call::Convert09, self.converted09(list, &TARGET, list.base - 8)?.0),
+            said(Call::Convert09, self.converted09(list, target, list.base - 8)?.0),
         ])
     }
 
@@ -145,14 +130,8 @@ impl Bench {
         all.iter().try_for_each(|said| said.expect_refusal(&made.list, ENTRY, at))
     }
 
-    /// No entry is bad: the check accepts the list, and no call answers 8. The same once the list is clean,
-    /// which it is not as it was made.
+    /// No entry is bad: the check accepts the list, and no call answers 8.
     fn good(&mut self, list: &List) -> Result<(), String> {
-        self.is_good(list)?;
-        self.is_good(&wiped(list))
-    }
-
-    fn is_good(&mut self, list: &List) -> Result<(), String> {
         for said in self.each_check(list)? {
             let is_own = said.is_by_its_edition(list);
             if said.number == ENTRY || is_own && matches!(said.call, Call::Check | Call::Check09) {

@@ -11,7 +11,6 @@ use oracle::demand::Edit;
 use oracle::demand_entry::Way;
 use oracle::lists::{restore_checksum, List};
 use oracle::lists_certificate::{entry, list};
-use oracle::lists_dirty::wiped;
 use oracle::lists_entry::{Made, Plan, PLANS, TAG};
 use oracle::model::{self, field, put_u32, Edition, ADDRESS_END, CERTIFICATE_TAG, ENTRY};
 use oracle::model_certificate::{NOT_ASKED, NOT_ONE, NOT_SOUND};
@@ -27,11 +26,11 @@ fn grow(list: &mut List, field: usize, by: u32) {
     put_u32(&mut list.area, field, size + by);
 }
 
-pub type Change = fn(&mut List);
+type Change = fn(&mut List);
 
 /// What gives each lower refusal, in a list of any edition and version. The checksum is put right afterwards
 /// where that is not the matter.
-pub const LOWER: [(u32, Change); 22] = [
+const LOWER: [(u32, Change); 22] = [
     (model::AREA, |list| list.base += 4),
     (model::AREA, |list| list.base += 1),
     (model::AREA, |list| list.base = END),
@@ -56,7 +55,7 @@ pub const LOWER: [(u32, Change); 22] = [
     (model::CHECKSUM, |list| list.area[field::CHECKSUM] ^= 0x80),
 ];
 
-pub fn change_by(list: &mut List, (number, change): (u32, Change)) {
+fn change_by(list: &mut List, (number, change): (u32, Change)) {
     change(list);
     if number != model::CHECKSUM && list.area.len() >= list.edition.hdr_size() {
         restore_checksum(list.edition, &mut list.area);
@@ -64,7 +63,7 @@ pub fn change_by(list: &mut List, (number, change): (u32, Change)) {
 }
 
 /// What is asked of a list: a find, an edit, or a relocation or a conversion into so many bytes at this base.
-pub enum Ask {
+enum Ask {
     Find(u32, u64),
     Edit(Edit<'static>),
     Move(usize, u64),
@@ -78,8 +77,8 @@ const fn add_aligned(tag: u32, data: &'static [u8], exponent: u32) -> Ask {
     Ask::Edit(Edit::AddAligned { tag, data, exponent })
 }
 
-/// What a good and clean list of version 1 refuses with a number over 8.
-pub const ASKS: [(u32, Ask); 28] = [
+/// What a good list of version 1 refuses with a number over 8.
+const ASKS: [(u32, Ask); 28] = [
     (model::TAG, Ask::Find(0, 0)),
     (model::TAG, Ask::Find(0x100_0000 + TAG, 0)),
     (model::NONE, Ask::Find(ABSENT, 0)),
@@ -152,10 +151,6 @@ impl Bench {
                 }
             }
             if plan.is_first_version() {
-                self.asks_of_good(&wiped(&three(&plan, None).list))?;
-            }
-            // A conversion asks for no clean list.
-            if plan.is_first_version() && plan.edition == Edition::E09 {
                 self.asks_of_good(&three(&plan, None).list)?;
             }
         }
@@ -192,7 +187,7 @@ impl Bench {
         Ok(())
     }
 
-    pub fn asks_of_good(&mut self, list: &List) -> Result<(), String> {
+    fn asks_of_good(&mut self, list: &List) -> Result<(), String> {
         for (number, ask) in &ASKS {
             if let Some(said) = self.ask(list, ask)? {
                 said.expect(list, *number, 0)?;
@@ -202,7 +197,7 @@ impl Bench {
     }
 
     /// None where the list's edition has no such call.
-    pub fn ask(&mut self, list: &List, ask: &Ask) -> Result<Option<Said>, String> {
+    fn ask(&mut self, list: &List, ask: &Ask) -> Result<Option<Said>, String> {
         Ok(Some(match (list.edition, ask) {
             (Edition::Current, Ask::Find(tag, n)) => said(Call::Find, self.found(list, *tag, *n)?),
             (Edition::E09, Ask::Find(tag, n)) => said(Call::Find09, self.found09(list, *tag, *n)?),

@@ -39,12 +39,13 @@ fn later_version() -> Vec<u8> {
     area
 }
 
-/// An entry that no add of ours writes: an event log of fewer than 4 bytes; where there is padding, it is
-/// this byte.
-fn short_log(length: usize, padding: u8) -> Vec<u8> {
+/// An entry that no add of ours writes: an event log of fewer than 4 bytes, with padding that is not 0
+/// where there is any.
+fn short_log(length: usize) -> Vec<u8> {
     let mut entry = vec![5, 0, 0, 8, length as u8, 0, 0, 0];
-    entry.extend_from_slice(&[0x11, 0x22, 0x33][..length]);
-    entry.resize(entry.len().next_multiple_of(8), padding);
+    if length > 0 {
+        entry.extend_from_slice(&[0x11, 0x22, 0x33, 0x44, 0x55, 0x66, 0x77, 0x88]);
+    }
     entry
 }
 
@@ -66,8 +67,7 @@ impl Bench {
             self.lengths_by_both_adds(&list(area))?;
         }
         for length in 0..4 {
-            self.read_as_before(&short_log(length, 0))?;
-            self.read_as_before(&short_log(length, 0x44))?;
+            self.read_as_before(&short_log(length))?;
         }
         Ok(())
     }
@@ -97,7 +97,6 @@ impl Bench {
         self.find(&current, EVENT_LOG_TAG, 0)?;
         self.edit(&current, &Edit::Void { tag: EVENT_LOG_TAG, n: 0 })?;
         self.relocate(&current, &[0xa5; 128], 0x2008)?;
-        self.scrub(&current)?;
         self.lengths_by_both_adds(&current)?;
         let old = List { area: by_hand(3, entry, 64), base: BASE, edition: Edition::E09 };
         self.check09(&old)?;

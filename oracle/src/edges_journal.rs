@@ -14,7 +14,7 @@ const NO_CHECKSUM: u32 = 0;
 const DATA: [u8; 11] = [1, 2, 3, 4, 5, 6, 7, 8, 9, 10, 11];
 /// The first fits the small void behind no data, the second the large one; the aligned ones have no padding, and
 /// some.
-pub const EDITS: [Edit; 8] = [
+const EDITS: [Edit; 8] = [
     Edit::Add { tag: 3, data: &[], use_voids: true },
     Edit::Add { tag: 3, data: &DATA, use_voids: true },
     Edit::Add { tag: 3, data: &DATA, use_voids: false },
@@ -26,14 +26,14 @@ pub const EDITS: [Edit; 8] = [
 ];
 const KINDS: [u8; 6] = [kind::WORD, kind::COMMIT, 3, 0x10, 0x80, 0xff];
 
-/// Voids without data, with data, a live entry with padding and one without data; room for more.
-pub fn list(flags: u32, rest: usize) -> List {
-    let [live, empty, small, _, void] = pieces();
-    by_hand(3, flags, &[&small[..], &live, &void, &empty].concat(), 160, rest)
+/// Voids without data, with data, a live entry with padding that is not 0 and one without data; room for more.
+fn list(flags: u32, rest: usize) -> List {
+    let [live, empty, small, _, dirty] = pieces();
+    by_hand(3, flags, &[&small[..], &live, &dirty, &empty].concat(), 160, rest)
 }
 
 /// So many bytes whose whole records are empty; no other byte is 0.
-pub fn spent(len: usize) -> Vec<u8> {
+fn spent(len: usize) -> Vec<u8> {
     let mut journal = vec![0xb7; len];
     journal.chunks_exact_mut(RECORD).for_each(|record| record[0] = kind::EMPTY);
     journal
@@ -47,7 +47,7 @@ fn words_of(list: &List, edit: &Edit) -> Result<usize, String> {
 }
 
 /// Journals that every edit refuses: too short, or with a kind that is not 0.
-pub fn refused_journals() -> Vec<Vec<u8>> {
+fn refused_journals() -> Vec<Vec<u8>> {
     let with = |record: usize, kind: u8| {
         let mut journal = spent(RECORD * 64);
         journal[RECORD * record] = kind;
@@ -57,7 +57,7 @@ pub fn refused_journals() -> Vec<Vec<u8>> {
 }
 
 /// Edits that a list with room refuses for another reason.
-pub const REFUSED: [(u32, Edit); 16] = [
+const REFUSED: [(u32, Edit); 16] = [
     (model::TAG, Edit::Add { tag: 0, data: &DATA, use_voids: true }),
     (model::TAG, Edit::Add { tag: 0x80_0000, data: &DATA, use_voids: false }),
     (model::SHAPE, Edit::Add { tag: 6, data: &DATA, use_voids: true }),

@@ -1,7 +1,6 @@
 //! The edges of document 02, request 3, made on purpose on every run: every short row of live entries
 //! and voids, every refusal, areas without a byte, adds that are ROOM before and not afterwards, and
-//! lists that fill the longest buffer. `huge` has the lengths at the limit. The lists are clean: to others
-//! tidy is 15, and these are those of `edges_dirty` and `edges_scrub`.
+//! lists that fill the longest buffer. `huge` has the lengths at the limit.
 
 use crate::compare::Bench;
 use oracle::demand::Edit;
@@ -12,35 +11,33 @@ use oracle::model_tidy;
 
 const BASE: u64 = 0x1000;
 const END: u64 = ADDRESS_END as u64;
-/// What stands behind total_size.
+/// What stands behind used_size.
 const BEHIND: u8 = 0xa5;
 /// No row of entries that is made in every way has more than these.
 const LONGEST_ROW: u32 = 5;
 
-pub const HAS_CHECKSUM: u32 = 1;
+const HAS_CHECKSUM: u32 = 1;
 /// Without has_checksum.
-pub const OTHER_FLAGS: u32 = 0x8000_0002;
+const OTHER_FLAGS: u32 = 0x8000_0002;
 
-/// An entry, clean; no byte of a live one's data is 0.
-pub fn entry(tag: u8, data_size: usize) -> Vec<u8> {
-    let mut entry = vec![tag, 0, 0, 8, 0, 0, 0, 0];
+/// An entry whose data and padding are this byte.
+fn entry(tag: u8, data_size: usize, byte: u8) -> Vec<u8> {
+    let mut entry = vec![byte; (8 + data_size).next_multiple_of(8)];
+    entry[..4].copy_from_slice(&[tag, 0, 0, 8]);
     put_u32(&mut entry, 4, data_size as u32);
-    entry.resize(8 + data_size, if tag == 0 { 0 } else { 0x5a });
-    entry.resize(entry.len().next_multiple_of(8), 0);
     entry
 }
 
-/// What a row is made of: a live entry with padding and one without data; a void without data, one of 8
-/// bytes and one of 16.
+/// What a row is made of: a live entry with padding that is not 0 and one without data; a void without
+/// data, one whose data is 0, and one whose data is not.
 pub fn pieces() -> [Vec<u8>; 5] {
-    [entry(1, 3), entry(2, 0), entry(0, 0), entry(0, 8), entry(0, 16)]
+    [entry(1, 3, 0x5a), entry(2, 0, 0), entry(0, 0, 0), entry(0, 8, 0), entry(0, 16, 0xd7)]
 }
 
-/// A list of version 1 with these entries, `spare` zeros to grow into and `rest` bytes behind its total.
+/// A list of version 1 with these entries, `spare` bytes to grow into and `rest` behind its total.
 pub fn by_hand(alignment: u8, flags: u32, entries: &[u8], spare: usize, rest: usize) -> List {
     let used = 24 + entries.len();
-    let mut area = vec![0; used + spare];
-    area.resize(used + spare + rest, BEHIND);
+    let mut area = vec![BEHIND; used + spare + rest];
     put_u32(&mut area, 0, Edition::Current.signature());
     area[field::VERSION] = 1;
     area[field::HDR_SIZE] = 24;
@@ -54,11 +51,12 @@ pub fn by_hand(alignment: u8, flags: u32, entries: &[u8], spare: usize, rest: us
     List { area, base: BASE, edition: Edition::Current }
 }
 
-/// A list with a run at its start, one void alone in the middle and a run at its end. The first void is at
-/// 24, the first live entry at 56.
+/// A list with a run at its start, one void alone in the middle and a run at its end, each with data
+/// that is not 0; so nothing of a refused tidy stays unseen. The first void is at 24, the first live
+/// entry at 56.
 pub fn with_runs() -> List {
-    let [live, empty, small, _, void] = pieces();
-    let entries = [&void[..], &small, &live, &void, &empty, &small, &void].concat();
+    let [live, empty, small, _, dirty] = pieces();
+    let entries = [&dirty[..], &small, &live, &dirty, &empty, &small, &dirty].concat();
     by_hand(6, HAS_CHECKSUM, &entries, 16, 8)
 }
 
@@ -211,7 +209,7 @@ impl Bench {
                 }
             }
         }
-        let area = lists09::by_hand(3, &entry(0, 8), 64);
+        let area = lists09::by_hand(3, &entry(0, 8, 0xd7), 64);
         let old = List { area, base: BASE, edition: Edition::E09 };
         expect(self.tidy(&old)?.number, model::SIGNATURE)
     }
@@ -219,10 +217,10 @@ impl Bench {
     /// "An add says ROOM although the space is there in small voids": before a live entry, at the end, or
     /// together with what is free behind them.
     fn room_by_tidy(&mut self) -> Result<(), String> {
-        let [live, empty, small, void, long] = pieces();
-        let before_live = [&small[..], &long, &small, &void, &live].concat();
-        let at_the_end = [&live[..], &small, &long, &void].concat();
-        let between = [&empty[..], &small, &small, &empty, &long, &empty, &small, &small, &small].concat();
+        let [live, empty, small, zero, dirty] = pieces();
+        let before_live = [&small[..], &dirty, &small, &zero, &live].concat();
+        let at_the_end = [&live[..], &small, &dirty, &zero].concat();
+        let between = [&empty[..], &small, &small, &empty, &dirty, &empty, &small, &small, &small].concat();
         for (entries, spare, length) in [
             (&before_live, 0, 48),
             (&before_live, 0, 17),
@@ -246,16 +244,17 @@ impl Bench {
     /// Lists of 65,536 bytes: of voids of 8 bytes alone, these before a live entry or behind one, every
     /// second entry a void, and one void or one live entry over everything.
     fn full_lists_to_tidy(&mut self) -> Result<(), String> {
-        let [_, live, void, longer, _] = pieces();
+        let [_, live, void, _, _] = pieces();
+        let dirty = entry(0, 8, 0xd7);
         let voids = full(&[&void]);
         let rows = [
             [&voids[8..], &live].concat(),
             [&live, &voids[8..]].concat(),
             full(&[&void, &live]),
             full(&[&live, &void]),
-            full(&[&longer, &live]),
-            entry(0, MOST_LENT - 32),
-            entry(1, MOST_LENT - 35),
+            full(&[&dirty, &live]),
+            entry(0, MOST_LENT - 32, 0xd7),
+            entry(1, MOST_LENT - 35, 0x5a),
             voids,
         ];
         for entries in rows {

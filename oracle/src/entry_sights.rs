@@ -7,7 +7,7 @@ use crate::tally::Call;
 use std::fmt::Write;
 
 /// The calls that make the check.
-const CALLS: [Call; 18] = [
+const CALLS: [Call; 17] = [
     Call::Check,
     Call::Find,
     Call::Add,
@@ -15,7 +15,6 @@ const CALLS: [Call; 18] = [
     Call::Void,
     Call::Relocate,
     Call::Tidy,
-    Call::Scrub,
     Call::Certificate,
     Call::Check09,
     Call::Find09,

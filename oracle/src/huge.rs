@@ -12,9 +12,8 @@ use crate::lent::Lent;
 use crate::library;
 use oracle::demand::Edit;
 use oracle::lists::MOST_LENT;
-use oracle::model::{self, field, Answer, CERTIFICATE_TAG, HIGHEST_ALIGNMENT, LONGEST_AREA};
+use oracle::model::{self, Answer, CERTIFICATE_TAG, HIGHEST_ALIGNMENT, LONGEST_AREA};
 use oracle::model_certificate;
-use oracle::model_scrub;
 use oracle::model_tidy;
 use oracle::tally::Call;
 
@@ -22,8 +21,6 @@ use oracle::tally::Call;
 pub const BASE: u64 = (1 << HIGHEST_ALIGNMENT) - 192;
 pub const TAG: u32 = 1;
 pub const SMALL: usize = 256;
-/// A byte of padding behind the first entry's data.
-const PADDING: usize = 36;
 /// Cut to 32 bits this is SMALL.
 pub const HUGE: usize = (1 << 32) + SMALL;
 
@@ -129,9 +126,6 @@ impl Bench {
             let wanted = model_tidy::tidy(long.lent.bytes(), list.base);
             let given = library::tidy(&mut long.lent, list.base);
             self.judge_long(long, Call::Tidy, wanted, given, &[])?;
-            let wanted = model_scrub::scrub(long.lent.bytes(), list.base);
-            let given = library::scrub(&mut long.lent, list.base);
-            self.judge_long(long, Call::Scrub, wanted, given, &[])?;
             let wanted = model_certificate::certificate(long.lent.bytes(), list.base, 0, 0);
             let given = library::certificate(&mut long.lent, list.base, 0, 0);
             self.judge_long(long, Call::Certificate, wanted, given, &[])?;
@@ -162,7 +156,6 @@ impl Bench {
         self.read_long_area(long)?;
         self.edit_long_area(long)?;
         self.relocate_long_area(long)?;
-        self.scrub_long_area(long)?;
         if long.is_too_long() {
             self.create_long_area(long)?;
             self.relocate_to_long_target(long)?;
@@ -199,36 +192,6 @@ impl Bench {
         let given = library::tidy(&mut long.lent, BASE);
         self.judge_long(long, Call::Tidy, wanted, given, &[])?;
         long.put_back_from(&after)
-    }
-
-    /// A scrub of the list, and of the same with leftovers in its padding and at its end. The list is there
-    /// again afterwards.
-    fn scrub_long_area(&mut self, long: &mut Long) -> Result<(), String> {
-        for byte in [0, 0x5a] {
-            let mut list = small_list();
-            list[PADDING] ^= byte;
-            list[field::CHECKSUM] ^= byte;
-            list[SMALL - 1] = byte;
-            long.hold(list);
-            let wanted = model_scrub::scrub(long.lent.bytes(), BASE);
-            let after = long.put_back();
-            let given = library::scrub(&mut long.lent, BASE);
-            self.judge_long(long, Call::Scrub, wanted, given, &[])?;
-            long.put_back_from(&after)?;
-        }
-        self.tidy_dirty_long_area(long)?;
-        long.hold(small_list());
-        Ok(())
-    }
-
-    /// The list with leftovers is 15 where it is not AREA.
-    fn tidy_dirty_long_area(&mut self, long: &mut Long) -> Result<(), String> {
-        let wanted = model_tidy::tidy(long.lent.bytes(), BASE);
-        let given = library::tidy(&mut long.lent, BASE);
-        let numbers = || format!("an area of {} bytes, with leftovers", long.lent.len());
-        self.judge(&Asked { call: Call::Tidy, numbers: &numbers }, wanted, given, &[])?;
-        expect(given.number, if long.is_too_long() { model::AREA } else { model::DIRTY })?;
-        unwritten(&long.lent, &long.list)
     }
 
     fn relocate_long_area(&mut self, long: &mut Long) -> Result<(), String> {

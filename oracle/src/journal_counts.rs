@@ -34,8 +34,6 @@ pub struct Cuts {
     pub second: u64,
     /// Rows of recoveries that were cut somewhere, each with a last one to its end.
     pub rows: u64,
-    /// The same edits of the same lists with leftovers, refused with 15.
-    pub dirty: u64,
 }
 
 /// How a state or buffers differ from what the step before left.
@@ -122,12 +120,12 @@ impl JournalCounts {
         write!(table, "\n{:<26}{:>16}{:>16}", "stepped through", "edits", "recoveries").unwrap();
         write!(table, "\n{:<26}{edits:>16}{recoveries:>16}", "").unwrap();
         write!(table, "\n{:<26}", "cut after every byte").unwrap();
-        for head in ["edits", "cuts", "recoveries' cuts", "rows of cuts", "15 with leftovers"] {
+        for head in ["edits", "cuts", "recoveries' cuts", "rows of cuts"] {
             write!(table, "{head:>18}").unwrap();
         }
         for (cuts, kind) in self.cuts.iter().zip(Kind::ALL) {
             write!(table, "\n{:<26}", kind.name()).unwrap();
-            for seen in [cuts.edits, cuts.cuts, cuts.second, cuts.rows, cuts.dirty] {
+            for seen in [cuts.edits, cuts.cuts, cuts.second, cuts.rows] {
                 write!(table, "{seen:>18}").unwrap();
             }
         }
@@ -169,7 +167,6 @@ impl JournalCounts {
         for (cuts, kind) in self.cuts.iter().zip(Kind::ALL) {
             must(cuts.edits, LEAST_EDITS, format!("{} cut after every byte", kind.name()));
             must(cuts.rows, 1, format!("{} cut, with a row of cut recoveries", kind.name()));
-            must(cuts.dirty, 1, format!("{} of a list with leftovers", kind.name()));
         }
         for (seen, foreign) in self.foreign.iter().zip(Foreign::ALL) {
             must(seen.runs, 1, format!("a step handed {}", foreign.name()));

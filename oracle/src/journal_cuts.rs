@@ -6,17 +6,14 @@
 //! second recovery to its end; and some cuts have a row of recoveries that are cut somewhere.
 
 use crate::compare::{hex, Bench, Buffer};
-use crate::edges_tidy::expect;
 use crate::job::Job;
 use crate::journal_counts::{Cuts, LEAST_EDITS};
 use crate::library::{self, Three};
 use crate::watch;
 use oracle::demand;
 use oracle::demand_journal::{after_recovery, Sight, Story};
-use oracle::lists::List;
-use oracle::lists_dirty;
 use oracle::lists_journal::{self, Case, Kind};
-use oracle::model::{Done, DIRTY};
+use oracle::model::Done;
 use oracle::model_journal::{self, RECORD, WORD};
 use oracle::rng::Rng;
 use oracle::tally::Call;
@@ -52,8 +49,7 @@ impl Bench {
             for turn in 0..LEAST_EDITS {
                 watch::part(&format!("  {}, cut after every byte, number {turn}", kind.name()));
                 let case = lists_journal::case(rng, kind);
-                let mut cuts = self.cut_everywhere(rng, &case)?;
-                cuts.dirty += self.dirty_case(rng, &case)?;
+                let cuts = self.cut_everywhere(rng, &case)?;
                 self.journal_counts.cuts[kind as usize].add(&cuts);
             }
         }
@@ -98,20 +94,6 @@ impl Bench {
         held.map_err(|broken| job.told(old, &case.journal, &broken))?;
         self.step_on_others(&job, &run.last)?;
         Ok(cuts)
-    }
-
-    /// The same edit of the same list with leftovers, where it has a place for them, is 15, and stores
-    /// nothing; how often.
-    fn dirty_case(&mut self, rng: &mut Rng, case: &Case) -> Result<u64, String> {
-        let mut dirty = List { area: case.list.area.clone(), ..case.list };
-        lists_dirty::soil(rng, dirty.edition, &mut dirty.area);
-        if dirty.area == case.list.area {
-            return Ok(0);
-        }
-        let edit = case.given.edit();
-        expect(self.edit(&dirty, &edit)?.number, DIRTY)?;
-        expect(self.edit_with(&dirty, &edit, &case.journal)?.number, DIRTY)?;
-        Ok(1)
     }
 
     /// Recovers copies of what a cut has left; both buffers afterwards.
@@ -198,7 +180,6 @@ impl Cuts {
         self.cuts += other.cuts;
         self.second += other.second;
         self.rows += other.rows;
-        self.dirty += other.dirty;
     }
 }
 

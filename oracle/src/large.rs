@@ -7,7 +7,7 @@ type Part = fn(&mut Bench, u64) -> Result<(), String>;
 
 /// Each with its name on the command line; the number is the seed, which only the last one uses for more
 /// than the guards.
-const PARTS: [(&str, Part); 10] = [
+const PARTS: [(&str, Part); 9] = [
     ("lengths", |bench, _| bench.large_lengths()),
     ("entries", |bench, _| bench.large_entries()),
     ("full", |bench, _| bench.large_full()),
@@ -16,7 +16,6 @@ const PARTS: [(&str, Part); 10] = [
     ("refusals", |bench, _| bench.large_refusals()),
     ("trees", |bench, _| bench.large_trees()),
     ("journals", |bench, _| bench.large_journals()),
-    ("leftovers", |bench, _| bench.large_dirt()),
     ("rows", |bench, seed| bench.large_rows(seed)),
 ];
 

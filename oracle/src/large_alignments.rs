@@ -47,7 +47,8 @@ impl Wanted {
         plan.list(&entry_of(SMALL, self.before))
     }
 
-    /// Whether the padding void, where there is one, is a void's header and zeros.
+    /// Whether the padding void, where there is one, is a void's header and zeros; its bytes were not 0
+    /// before.
     fn is_zero_void(&self, area: &[u8]) -> bool {
         let void = &area[self.used()..][..self.padding];
         void.is_empty() || (void[..4] == [0, 0, 0, 8] && void[8..].iter().all(|byte| *byte == 0))

@@ -2,10 +2,11 @@
 //! voided, tidied away, moved, converted, and with certificates behind them.
 
 use crate::compare::Bench;
-use crate::large_lists::{certificate, entry, entry_of, noise, void_of, Plan, BASE, LARGE, LONGEST, SMALL};
+use crate::large_lists::{certificate, entry_of, noise, Plan, BASE, LARGE, LONGEST, SMALL};
 use oracle::certificate_values;
 use oracle::demand::Edit;
 use oracle::lists::List;
+use oracle::lists_certificate::entry;
 use oracle::model::{CERTIFICATE_TAG, ROOM};
 
 /// The last one fills 16 MiB.
@@ -80,11 +81,11 @@ impl Bench {
     /// A list that is full: the void just fits, or is a byte short; what is left of it is a void again.
     fn added_in_a_void(&mut self, length: usize) -> Result<(), String> {
         let size = length.next_multiple_of(8);
-        let void = void_of(size);
+        let void = entry(0, 8, &noise(size));
         let len = (24 + void.len() + 16).min(LONGEST);
         let behind = match len - 24 - void.len() {
             0 => Vec::new(),
-            _ => entry(SMALL, &[3; 5]),
+            _ => entry(SMALL, 8, &[3; 5]),
         };
         let list = Plan::current(len).list(&[void, behind].concat());
         for length in [size, size - 7, size - 8, size - 65_540, size + 1] {

@@ -5,9 +5,10 @@ use crate::calls_fdt::Examined;
 use crate::compare::Bench;
 use crate::edges_fdt_large::MANY;
 use crate::edges_fdt_small::{begin, property};
-use crate::large_lists::{entry, Plan, LENGTHS, LONGEST, SMALL};
+use crate::large_lists::{Plan, LENGTHS, LONGEST, SMALL};
 use oracle::fdt_tree::{Piece, Tree};
 use oracle::lists::List;
+use oracle::lists_certificate::entry;
 use oracle::model::{self, Edition};
 use oracle::model09;
 use oracle::model_fdt::BROKEN;
@@ -95,10 +96,10 @@ impl Bench {
 
     /// A tree that fills a list but for a small entry, found there and looked into.
     fn tree_in_a_list(&mut self, plan: &Plan) -> Result<(), String> {
-        let small = entry(SMALL, &[1, 2, 3]);
+        let small = entry(SMALL, 8, &[1, 2, 3]);
         let length = plan.room() - small.len() - 8;
         for data in [of_one_value(length), of_nodes(length.min(1 << 20))] {
-            let list = plan.list(&[small.clone(), entry(FDT, &data)].concat());
+            let list = plan.list(&[small.clone(), entry(FDT, 8, &data)].concat());
             let found = self.found_tree(&list)?;
             self.see_large(|large| large.tree_in_a_list());
             self.whole_tree(&list.area[found])?;

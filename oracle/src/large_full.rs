@@ -2,10 +2,11 @@
 
 use crate::compare::Bench;
 use crate::large_entries::expect;
-use crate::large_lists::{certificate, entry, without_data, Plan, BASE, LONGEST, MANY, SMALL};
+use crate::large_lists::{certificate, without_data, Plan, BASE, LONGEST, MANY, SMALL};
 use oracle::certificate_values;
 use oracle::demand::Edit;
 use oracle::lists::List;
+use oracle::lists_certificate::entry;
 use oracle::model::ROOM;
 
 /// The first, one in the middle, the last, one past it, and what would be the first if it were cut to
@@ -55,7 +56,6 @@ impl Bench {
         self.edit(list, &Edit::Add { tag: SMALL, data: &[], use_voids: true })?;
         self.edit(list, &Edit::AddAligned { tag: SMALL, data: &[], exponent: 21 })?;
         self.tidy(list)?;
-        self.scrub(list)?;
         self.certificate(list, 1, 2)?;
         for (len, base) in [(LONGEST, 0), (LONGEST, 1), (LONGEST - 1, BASE), (LONGEST + 1, BASE)] {
             self.relocate(list, &vec![0x5a; len], base)?;
@@ -105,7 +105,7 @@ impl Bench {
     fn certificate_behind(&mut self) -> Result<(), String> {
         let plan = Plan::current(LONGEST);
         let one = certificate_values::stated(1);
-        for behind in [certificate(), entry(SMALL, &one.bytes())] {
+        for behind in [certificate(), entry(SMALL, 8, &one.bytes())] {
             let entries = without_data(plan.room() - 64, |_| SMALL);
             let list = plan.list(&[entries, behind].concat());
             self.certificate(&list, one.serial, one.test)?;

@@ -69,7 +69,6 @@ impl Bench {
             self.edit(list, &Edit::Void { tag, n })?;
         }
         self.tidy(list)?;
-        self.scrub(list)?;
         let one = certificate_values::stated(1);
         self.certificate(list, one.serial, one.test)?;
         let target = vec![0x5a; list.area.len()];

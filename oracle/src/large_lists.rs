@@ -2,6 +2,7 @@
 
 use oracle::certificate_values;
 use oracle::lists::{restore_checksum, used_size, List};
+use oracle::lists_certificate::entry;
 use oracle::model::{field, put_u32, Edition, ADDRESS_END, CERTIFICATE_TAG};
 use oracle::rng::Rng;
 
@@ -54,8 +55,7 @@ impl Plan {
         self.len / 8 * 8 - self.hdr_size().next_multiple_of(8)
     }
 
-    /// The list with these entries, whose bytes it takes, and zeros behind them; no byte behind its total
-    /// is 0.
+    /// The list with these entries, whose bytes it takes; no byte behind them is 0.
     pub fn list(&self, entries: &[u8]) -> List {
         let mut area = vec![0x3c; self.hdr_size().next_multiple_of(8)];
         put_u32(&mut area, 0, self.edition.signature());
@@ -70,7 +70,6 @@ impl Plan {
         area.extend_from_slice(entries);
         let used = area.len() as u32;
         put_u32(&mut area, field::USED_SIZE, used);
-        area.resize(self.len / 8 * 8, 0);
         area.resize(self.len, 0xa5);
         restore_checksum(self.edition, &mut area);
         List { area, base: self.base, edition: self.edition }
@@ -92,30 +91,14 @@ pub fn without_data(bytes: usize, tag: impl Fn(usize) -> u32) -> Vec<u8> {
     entries
 }
 
-/// A clean entry with this data, which of a void is 0.
-pub fn entry(tag: u32, data: &[u8]) -> Vec<u8> {
-    let mut entry = vec![0; 8];
-    put_u32(&mut entry, 0, tag);
-    entry[3] = 8;
-    put_u32(&mut entry, 4, data.len() as u32);
-    entry.extend(data);
-    entry.resize(entry.len().next_multiple_of(8), 0);
-    entry
-}
-
-/// A void with data of so many zeros.
-pub fn void_of(length: usize) -> Vec<u8> {
-    entry(0, &vec![0; length])
-}
-
 /// An entry over just so many bytes, its data without rule.
 pub fn one_entry(tag: u32, bytes: usize) -> Vec<u8> {
     entry_of(tag, bytes - 8)
 }
 
-/// An entry with data of so many bytes, without rule.
+/// An entry with data of so many bytes, without rule; its padding is not 0.
 pub fn entry_of(tag: u32, length: usize) -> Vec<u8> {
-    entry(tag, &noise(length))
+    entry(tag, 8, &noise(length))
 }
 
 /// So many bytes without rule, the same ones each time.
@@ -125,15 +108,16 @@ pub fn noise(length: usize) -> Vec<u8> {
 
 /// The entry of a certificate that passes.
 pub fn certificate() -> Vec<u8> {
-    entry(CERTIFICATE_TAG, &certificate_values::stated(1).bytes())
+    entry(CERTIFICATE_TAG, 8, &certificate_values::stated(1).bytes())
 }
 
 /// Entries of every sort over just so many bytes: a certificate, voids alone and side by side, small ones,
 /// and a large one that takes the rest; a void at the end, if `ends_in_void`.
 pub fn mixture(bytes: usize, ends_in_void: bool) -> Vec<u8> {
-    let small = |data: &[u8]| entry(SMALL, data);
-    let front = [small(&[1, 2, 3]), void_of(24), certificate(), void_of(0), void_of(8), small(&[])].concat();
-    let last = if ends_in_void { void_of(40) } else { small(&[4; 13]) };
+    let void = |length: usize| entry(0, 8, &vec![0x77; length]);
+    let small = |data: &[u8]| entry(SMALL, 8, data);
+    let front = [small(&[1, 2, 3]), void(24), certificate(), void(0), void(8), small(&[])].concat();
+    let last = if ends_in_void { void(40) } else { small(&[4; 13]) };
     let middle = bytes - front.len() - last.len();
     [front, one_entry(LARGE, middle), last].concat()
 }

@@ -175,7 +175,6 @@ impl Bench {
         self.edit(list, &Edit::AddAligned { tag: SMALL, data: &[1, 2], exponent: 21 })?;
         self.edit(list, &Edit::Void { tag: SMALL, n: 0 })?;
         self.tidy(list)?;
-        self.scrub(list)?;
         self.certificate(list, 1, 2)?;
         self.relocate(list, &[0x5a; 100], list.base)
     }

@@ -3,13 +3,12 @@
 
 use crate::compare::Bench;
 use crate::large::again;
-use crate::large_lists::{entry, highest_base, void_of, Plan, LONGEST};
+use crate::large_lists::{highest_base, Plan, LONGEST};
 use crate::watch;
 use oracle::certificate_values;
 use oracle::demand::Edit;
 use oracle::lists::{self, List};
 use oracle::lists_certificate;
-use oracle::lists_dirty::soil;
 use oracle::model::{field, Edition, CERTIFICATE_TAG};
 use oracle::rng::Rng;
 
@@ -27,8 +26,8 @@ fn length(rng: &mut Rng) -> usize {
     (1 << bits) + rng.range(1, 1 << bits) as usize
 }
 
-/// A list of mixed entries that leaves some room; one in four is not clean. Tiny entries alone are rare in
-/// the longer lists: those take much longer then.
+/// A list of mixed entries that leaves some room. Tiny entries alone are rare in the longer lists: those
+/// take much longer then.
 fn first_list(rng: &mut Rng) -> List {
     let len = length(rng);
     let edition = if rng.once_in(6) { Edition::E09 } else { Edition::Current };
@@ -42,20 +41,16 @@ fn first_list(rng: &mut Rng) -> List {
     let mut entries = Vec::with_capacity(room);
     loop {
         let data = rng.small(bits) as usize;
-        let entry = match rng.below(8) < voids {
-            true => void_of(data / 8 * 8),
-            false => entry(rng.range(1, 4) as u32, &rng.bytes(data)),
+        let (tag, length) = match rng.below(8) < voids {
+            true => (0, data / 8 * 8),
+            false => (rng.range(1, 4) as u32, data),
         };
+        let entry = lists_certificate::entry(tag, 8, &rng.bytes(length));
         if entries.len() + entry.len() > room {
-            break;
+            return plan.list(&entries);
         }
         entries.extend(entry);
     }
-    let mut list = plan.list(&entries);
-    if rng.once_in(4) {
-        soil(rng, edition, &mut list.area);
-    }
-    list
 }
 
 /// What an add is to be long: around a void's length, around the room that is left, or anything.
@@ -107,7 +102,7 @@ impl Bench {
 
     fn one_call(&mut self, rng: &mut Rng, list: &mut List) -> Result<(), String> {
         let (tag, n) = (rng.range(1, 4) as u32, rng.small(6));
-        match rng.below(22) {
+        match rng.below(18) {
             0..=4 => {
                 let length = data_length(rng, list, 0);
                 let data = &rng.bytes(length);
@@ -130,12 +125,7 @@ impl Bench {
                 let (serial, test) = lists_certificate::asked(rng, &list.area);
                 self.certificate(list, serial, test).map(drop)
             }
-            17 => self.find(list, tag, n),
-            18..=20 => self.scrub_on(list).map(drop),
-            _ => {
-                soil(rng, list.edition, &mut list.area);
-                self.check(list)
-            }
+            _ => self.find(list, tag, n),
         }
     }
 

@@ -1,10 +1,9 @@
 //! What a run on large lists has met, and what it must have met: document 02, request 7.
 
 use crate::compare::Buffer;
-use crate::large_lists::{entries_of, LENGTHS, LONGEST, MANY};
+use crate::large_lists::{entries_of, LENGTHS, MANY};
 use crate::large_numbers::{Largest, Numbers};
 use oracle::demand::Edit;
-use oracle::dirt_sights::DirtSights;
 use oracle::lists::used_size;
 use oracle::model::{field, Done, Found, ALIGN, AREA, ENTRY, SIZES, TARGET};
 use oracle::tally::Call;
@@ -43,8 +42,6 @@ pub struct Sights {
     targets: [[u64; LENGTHS.len()]; MOVES.len()],
     numbers: Numbers,
     trees_in_lists: u64,
-    /// What one dirty byte did in lists of 16 MiB.
-    dirt: DirtSights,
 }
 
 fn is_for_trees(call: Call) -> bool {
@@ -81,9 +78,6 @@ impl Sights {
         }
         if reads_a_list(call) {
             self.list(call, number, first.before);
-        }
-        if first.before.len() == LONGEST {
-            self.dirt.count(call, Some(first.before), number);
         }
     }
 
@@ -202,7 +196,6 @@ impl Sights {
         }
         lines.push(self.numbers.table());
         lines.push(format!("{:<54}{:>10}", "device trees found in a list", self.trees_in_lists));
-        lines.push(self.dirt.table("15, in 16 MiB"));
         lines.join("\n")
     }
 
@@ -221,7 +214,6 @@ impl Sights {
         if self.trees_in_lists == 0 {
             unseen.push("no device tree was looked into where a list has it".to_string());
         }
-        unseen.extend(self.dirt.unseen());
         unseen
     }
 }

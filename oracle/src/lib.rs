@@ -1,4 +1,4 @@
-//! The second implementation of document 01 and of document 02, requests 1 to 3 and 5 to 10: the model of
+//! The second implementation of document 01 and of document 02, requests 1 to 3 and 5 to 9: the model of
 //! their jobs, the lists and device trees it is tried on, and what is demanded of a result said once more.
 //! Nothing here needs the library under test.
 
@@ -15,9 +15,7 @@ pub mod demand_certificate;
 pub mod demand_entry;
 pub mod demand_fdt;
 pub mod demand_journal;
-pub mod demand_scrub;
 pub mod demand_tidy;
-pub mod dirt_sights;
 pub mod entry_sights;
 pub mod exact;
 pub mod fdt_asked;
@@ -38,7 +36,6 @@ pub mod journals;
 pub mod lists;
 pub mod lists09;
 pub mod lists_certificate;
-pub mod lists_dirty;
 pub mod lists_entry;
 pub mod lists_journal;
 pub mod model;
@@ -46,12 +43,10 @@ pub mod model09;
 pub mod model_certificate;
 pub mod model_fdt;
 pub mod model_journal;
-pub mod model_scrub;
 pub mod model_tidy;
 pub mod params;
 pub mod rng;
 pub mod runs;
-pub mod scrub_sights;
 pub mod sights;
 pub mod tally;
 
@@ -75,7 +70,5 @@ mod examples_fdt_structure;
 mod examples_journal;
 #[cfg(test)]
 mod examples_journal_demand;
-#[cfg(test)]
-mod examples_scrub;
 #[cfg(test)]
 mod examples_tidy;

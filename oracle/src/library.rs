@@ -21,7 +21,6 @@ extern "C" {
     fn tl_relocate(area: *const u8, len: usize, base: u64,
                    target: *mut u8, target_len: usize, target_base: u64) -> Done;
     fn tl_tidy(area: *mut u8, len: usize, base: u64) -> Done;
-    fn tl_scrub(area: *mut u8, len: usize, base: u64) -> Done;
     fn tl_add_journalled(area: *mut u8, len: usize, base: u64, tag: u32, data: *const u8, data_len: usize,
                          use_voids: bool, journal: *mut u8, journal_len: usize) -> Done;
     fn tl_add_aligned_journalled(area: *mut u8, len: usize, base: u64, tag: u32, data: *const u8, data_len: usize,
@@ -89,11 +88,6 @@ pub fn relocate(area: &mut Lent, base: u64, target: &mut Lent, target_base: u64)
 pub fn tidy(area: &mut Lent, base: u64) -> Done {
     watch::call(Call::Tidy);
     unsafe { tl_tidy(area.pointer(), area.len(), base) }
-}
-
-pub fn scrub(area: &mut Lent, base: u64) -> Done {
-    watch::call(Call::Scrub);
-    unsafe { tl_scrub(area.pointer(), area.len(), base) }
 }
 
 pub fn certificate(area: &mut Lent, base: u64, serial: u64, test: u64) -> Certified {

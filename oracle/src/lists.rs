@@ -1,12 +1,11 @@
 //! A seeded source of lists of every kind: whole ones made by rows of edits, whole ones laid out by
-//! hand (later versions, longer headers, odd flags, padding that is not 0), and noise; with leftovers and
-//! without; then damaged ones, cut ones and ones at bad addresses.
+//! hand (later versions, longer headers, odd flags, padding that is not 0), and noise; then damaged
+//! ones, cut ones and ones at bad addresses.
 
 use crate::certificate_values;
 use crate::damage::spoil;
 use crate::lists09;
 use crate::lists_certificate;
-use crate::lists_dirty;
 use crate::model::{self, align8, field, put_u32, Edition, ADDRESS_END, CERTIFICATE_TAG, HIGHEST_ALIGNMENT};
 use crate::model_tidy;
 use crate::rng::Rng;
@@ -40,7 +39,6 @@ pub fn any(rng: &mut Rng) -> List {
 pub fn any_as_made(rng: &mut Rng) -> (List, Vec<usize>) {
     let mut list = if rng.once_in(5) { lists09::whole(rng) } else { whole(rng) };
     let places = rows(&list.area).iter().map(|row| row.place).collect();
-    lists_dirty::by_chance(rng, &mut list);
     if rng.once_in(2) {
         spoil(rng, &mut list);
         if rng.once_in(4) {

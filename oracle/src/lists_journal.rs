@@ -89,8 +89,7 @@ pub struct Case {
     pub journal: Vec<u8>,
 }
 
-/// A small list made by create and some edits, and so a clean one; what stands behind total_size is not
-/// always 0.
+/// A small list made by create and some edits; what stands behind used_size is not always 0.
 fn small_list(rng: &mut Rng) -> List {
     let len = rng.range(64, 256) as usize;
     let base = 0x1000 + 8 * rng.below(64);
@@ -104,9 +103,9 @@ fn small_list(rng: &mut Rng) -> List {
         model::void(&mut area, base, rng.range(1, 3) as u32, rng.below(2));
     }
     if rng.once_in(2) {
-        let total = lists::total_size(&area) as usize;
-        let rest = rng.bytes(len - total);
-        area[total..].copy_from_slice(&rest);
+        let used = lists::used_size(&area) as usize;
+        let rest = rng.bytes(len - used);
+        area[used..].copy_from_slice(&rest);
     }
     List { area, base, edition: Edition::Current }
 }

@@ -1,4 +1,4 @@
-//! Compares libtransfer_list.a with the model of document 01 and of document 02, requests 1 to 3 and 5 to 10,
+//! Compares libtransfer_list.a with the model of document 01 and of document 02, requests 1 to 3 and 5 to 9,
 //! on many lists and device trees; and on large ones.
 //!
 //! `oracle [LISTS [SEED]]`; the list after that of seed S is the one of seed S + 1.
@@ -11,8 +11,6 @@ mod compare;
 mod edges09;
 mod edges_added_certificate;
 mod edges_certificate;
-mod edges_dirty;
-mod edges_dirty_refusals;
 mod edges_entry;
 mod edges_entry_refusals;
 mod edges_event_log;
@@ -23,7 +21,6 @@ mod edges_fdt_small;
 mod edges_journal;
 mod edges_reading;
 mod edges_recovery;
-mod edges_scrub;
 mod edges_tidy;
 mod edges_words;
 mod edits;
@@ -40,7 +37,6 @@ mod journal_steps;
 mod journalled;
 mod large;
 mod large_alignments;
-mod large_dirt;
 mod large_entries;
 mod large_fdt;
 mod large_full;
@@ -55,7 +51,6 @@ mod large_sights;
 mod lent;
 mod library;
 mod relocations;
-mod scrubs;
 mod steps;
 mod tidies;
 mod watch;
@@ -106,11 +101,9 @@ fn run(lists: u64, seed: u64) -> Result<(), String> {
     for index in 0..lists {
         one_list(&mut bench, seed.wrapping_add(index)).map_err(|report| format!("list {index}: {report}"))?;
     }
-    // The edges have their runs of voids, alignments, bad entries and leftovers on purpose; these were met by
-    // chance.
+    // The edges have their runs of voids, alignments and bad entries on purpose; these were met by chance.
     let (runs, alignments) = (std::mem::take(&mut bench.runs), std::mem::take(&mut bench.alignments));
     let bad_entries = std::mem::take(&mut bench.entry_sights);
-    let dirt = std::mem::take(&mut bench.dirt_sights);
     bench.edges09()?;
     bench.edges_event_log()?;
     bench.edges_tidy()?;
@@ -125,23 +118,17 @@ fn run(lists: u64, seed: u64) -> Result<(), String> {
     bench.edges_recovery()?;
     bench.edges_cuts(seed)?;
     bench.edges_foreign(seed)?;
-    bench.edges_dirty()?;
-    bench.edges_scrub()?;
     bench.huge_journals()?;
     println!("{}\n{}\n{}", bench.tally.table(), alignments.table(), bench.event_logs.table());
     println!("{}\n{}\n{}", bench.added_certificates.table(), runs.table(), bench.sights.table());
     println!("{}\n{}\n{}", bench.fdt_sights.table(), bench.fdt_finds.table(), bench.fdt_breaks.table());
     println!("{}\n{}", bad_entries.table("8, by chance"), bench.entry_sights.table("8, on purpose"));
     println!("{}\n{}", bench.journal_sights.table(), bench.journal_counts.table());
-    println!("{}\n{}", dirt.table("15, by chance"), bench.dirt_sights.table("15, on purpose"));
-    println!("{}\n{}", bench.dirt_sights.table_of_instead(), bench.scrub_sights.table());
     let adds = [alignments.unseen(), bench.event_logs.unseen(), bench.added_certificates.unseen()].concat();
     let trees = [bench.fdt_sights.unseen(), bench.fdt_finds.unseen(), bench.fdt_breaks.unseen()].concat();
     let entries = [runs.unseen(), bench.entry_sights.unseen(), bench.sights.unseen()].concat();
     let journals = [bench.journal_sights.unseen(), bench.journal_counts.unseen()].concat();
-    let dirt = [bench.dirt_sights.unseen(), bench.dirt_sights.unseen_instead(), bench.scrub_sights.unseen()]
-        .concat();
-    let unseen = [bench.tally.unseen(), adds, entries, trees, journals, dirt].concat();
+    let unseen = [bench.tally.unseen(), adds, entries, trees, journals].concat();
     if !unseen.is_empty() {
         return Err(unseen.join("\n"));
     }

@@ -1,17 +1,15 @@
 //! The seven jobs of document 01, each sentence written down plainly; the tag table as document 02,
-//! requests 2 and 5, amends it, the longest area and the highest alignment as request 7 does, what a refusal
-//! answers as request 8 does, and which lists an edit takes as request 10 does. The checks 1 to 8, check and
-//! find serve lists of edition 0.9 too (document 02, request 1); `model09` has what is theirs alone,
-//! `model_tidy` the job of request 3, `model_certificate` that of request 5, and `model_scrub` that of
-//! request 10, and what a clean list is.
+//! requests 2 and 5, amends it, the longest area and the highest alignment as request 7 does, and what a
+//! refusal answers as request 8 does. The checks 1 to 8, check and find serve lists of edition 0.9 too
+//! (document 02, request 1); `model09` has what is theirs alone, `model_tidy` the job of request 3, and
+//! `model_certificate` that of request 5.
 //!
 //! "All sums here are whole-number sums; none wraps": every sum is made in u128, where the largest
 //! address and the largest length together stay far below the limit.
 
-use crate::model_scrub;
 use std::ops::RangeInclusive;
 
-// The numbers of "When a call is turned away", and that of document 02, request 10.
+// The numbers of "When a call is turned away".
 pub const AREA: u32 = 1;
 pub const SHORT: u32 = 2;
 pub const SIGNATURE: u32 = 3;
@@ -26,7 +24,6 @@ pub const ALIGN: u32 = 11;
 pub const TARGET: u32 = 12;
 pub const NONE: u32 = 13;
 pub const ROOM: u32 = 14;
-pub const DIRTY: u32 = 15;
 
 /// What turns a call away: its number, and "the offset of the first entry that breaks a rule"; "other
 /// refusals answer 0 there" (document 02, request 8).
@@ -232,7 +229,7 @@ pub(crate) struct Header {
     hdr_size: u128,
     pub(crate) alignment: u8,
     pub(crate) used_size: u128,
-    pub(crate) total_size: u128,
+    total_size: u128,
 }
 
 impl Header {
@@ -376,18 +373,9 @@ impl List {
         List::open(edition, area, base, false)
     }
 
-    /// READONLY is for "add, add aligned, void or relocate", for a conversion, for tidy and for scrub. A
-    /// conversion and scrub make no other check of the list.
-    pub(crate) fn open_version_1(edition: Edition, area: &[u8], base: u64) -> Result<List, Refusal> {
+    /// READONLY is for "add, add aligned, void or relocate", for a conversion and for tidy.
+    pub(crate) fn open_to_edit(edition: Edition, area: &[u8], base: u64) -> Result<List, Refusal> {
         List::open(edition, area, base, true)
-    }
-
-    /// "Adds, void, relocate and tidy refuse anything else [than a clean list] with 15 DIRTY, checked right
-    /// after ENTRY and so before 9."
-    pub(crate) fn open_to_edit(area: &[u8], base: u64) -> Result<List, Refusal> {
-        let list = List::open_version_1(Edition::Current, area, base)?;
-        refuse_if(!model_scrub::is_clean(&list, area), DIRTY)?;
-        Ok(list)
     }
 
     fn count(&self, live: bool) -> u32 {
@@ -562,7 +550,7 @@ pub fn add(area: &mut [u8], base: u64, tag: u32, data: &[u8], use_voids: bool) -
 }
 
 fn try_add(area: &mut [u8], base: u64, tag: u32, data: &[u8], use_voids: bool) -> Result<u128, Refusal> {
-    let list = List::open_to_edit(area, base)?;
+    let list = List::open_to_edit(Edition::Current, area, base)?;
     check_new_tag(tag)?;
     check_shape(tag, data)?;
     let void = if use_voids { list.first_void_for(data.len() as u128) } else { None };
@@ -608,7 +596,7 @@ fn try_add_aligned(
     data: &[u8],
     exponent: u32,
 ) -> Result<u128, Refusal> {
-    let header = List::open_to_edit(area, base)?.header;
+    let header = List::open_to_edit(Edition::Current, area, base)?.header;
     check_new_tag(tag)?;
     check_shape(tag, data)?;
     refuse_if(!alignment_holds(exponent), ALIGN)?;
@@ -645,7 +633,7 @@ pub fn void(area: &mut [u8], base: u64, tag: u32, n: u64) -> Done {
 }
 
 fn try_void(area: &mut [u8], base: u64, tag: u32, n: u64) -> Result<u128, Refusal> {
-    let list = List::open_to_edit(area, base)?;
+    let list = List::open_to_edit(Edition::Current, area, base)?;
     check_tag(tag)?;
     let entry = list.occurrence(tag, n)?;
     put_zero_void(area, entry.place, align8(entry.data_size));
@@ -659,7 +647,7 @@ pub fn relocate(area: &[u8], base: u64, target: &mut [u8], target_base: u64) -> 
 }
 
 fn try_relocate(area: &[u8], base: u64, target: &mut [u8], target_base: u64) -> Result<u128, Refusal> {
-    let header = List::open_to_edit(area, base)?.header;
+    let header = List::open_to_edit(Edition::Current, area, base)?.header;
     refuse_if(!within_limits(target.len(), target_base), TARGET)?;
     let shift = new_base(base, target_base, header.alignment) - target_base as u128;
     refuse_if(shift + header.used_size > target.len() as u128, ROOM)?;

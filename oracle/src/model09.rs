@@ -6,7 +6,6 @@
 
 use crate::model::{self, field, put_u32, refuse_if, within_limits};
 use crate::model::{Checked, Done, Edition, Found, List, Refusal};
-use crate::model_scrub;
 
 /// Answers `size` and `max_size` as used and total.
 pub fn check(area: &[u8], base: u64) -> Checked {
@@ -23,7 +22,7 @@ pub fn convert(area: &[u8], base: u64, target: &mut [u8], target_base: u64) -> D
 }
 
 fn try_convert(area: &[u8], base: u64, target: &mut [u8], target_base: u64) -> Result<u128, Refusal> {
-    let List { header, entries } = List::open_version_1(Edition::E09, area, base)?;
+    let header = List::open_to_edit(Edition::E09, area, base)?.header;
     // "TARGET and ROOM apply as in relocation, with used being size + 8."
     refuse_if(!within_limits(target.len(), target_base), model::TARGET)?;
     let shift = shift(base, target_base, header.alignment);
@@ -37,12 +36,8 @@ fn try_convert(area: &[u8], base: u64, target: &mut [u8], target_base: u64) -> R
     model::put_new_header(result, true);
     result[field::ALIGNMENT] = header.alignment;
     put_u32(result, field::USED_SIZE, used as u32);
-    // "Entry bytes are copied as they stand": those from 16 to size, 8 further on. Request 10 amends this for
-    // padding and void data: "conversion from 0.9 writes zero there too".
+    // "Entry bytes are copied as they stand": those from 16 to size, 8 further on.
     result[24..used as usize].copy_from_slice(&area[16..header.used_size as usize]);
-    for leftover in entries.iter().map(model_scrub::leftover) {
-        result[leftover.start + 8..leftover.end + 8].fill(0);
-    }
     model::put_checksum(result);
     Ok(shift)
 }

@@ -2,10 +2,9 @@
 //! stretch, its data zero; voids at the end are given back, used shrinks, and the bytes given back
 //! become zero".
 //!
-//! "Checks 1 to 8 apply, 5 included", and since request 10 also 15: the model of document 01 makes them.
-//! There is no other refusal.
+//! "Checks 1 to 8 apply, 5 included": the model of document 01 makes them. There is no other refusal.
 
-use crate::model::{self, field, put_u32, Done, Entry, List, Refusal};
+use crate::model::{self, field, put_u32, Done, Edition, Entry, List, Refusal};
 use std::ops::Range;
 
 /// "The answer is the new used size."
@@ -14,7 +13,7 @@ pub fn tidy(area: &mut [u8], base: u64) -> Done {
 }
 
 fn try_tidy(area: &mut [u8], base: u64) -> Result<u128, Refusal> {
-    let list = List::open_to_edit(area, base)?;
+    let list = List::open_to_edit(Edition::Current, area, base)?;
     let end = list.header.used_size;
     let mut used = end;
     for run in runs(&list.entries) {

@@ -21,7 +21,7 @@ struct Run {
 
 type Holds = fn(&Tidied) -> bool;
 
-const KINDS: [(&str, Holds); 12] = [
+const KINDS: [(&str, Holds); 14] = [
     ("no entry", |list| list.rows.is_empty()),
     ("live entries alone", |list| !list.rows.is_empty() && list.runs.is_empty()),
     ("voids alone", |list| list.is_one_run()),
@@ -32,6 +32,8 @@ const KINDS: [(&str, Holds); 12] = [
     ("two voids before a live entry", |list| list.kept(|run| run.voids == 2)),
     ("more voids before a live entry", |list| list.kept(|run| run.voids > 2)),
     ("a void without data in a longer run", |list| list.runs.iter().any(|run| list.has_small_void(run))),
+    ("void data that is not 0", |list| list.rows.iter().any(|row| row.tag_id == 0 && list.is_dirty(row))),
+    ("live padding that is not 0", |list| list.rows.iter().any(|row| row.tag_id != 0 && list.is_padded(row))),
     ("voids and no has_checksum", |list| !list.runs.is_empty() && list.before[field::FLAGS] & 1 == 0),
     ("voids and nothing to change", |list| !list.runs.is_empty() && list.before == list.after),
 ];
@@ -65,6 +67,15 @@ impl<'a> Tidied<'a> {
 
     fn has_small_void(&self, run: &Run) -> bool {
         run.voids > 1 && self.rows[run.first..][..run.voids].iter().any(|row| row.data_size == 0)
+    }
+
+    fn is_dirty(&self, row: &Row) -> bool {
+        self.before[row.place + 8..][..row.data_size as usize].iter().any(|byte| *byte != 0)
+    }
+
+    fn is_padded(&self, row: &Row) -> bool {
+        let end = row.place + 8 + row.data_size as usize;
+        self.before[end..end.next_multiple_of(8)].iter().any(|byte| *byte != 0)
     }
 }
 

@@ -3,8 +3,8 @@
 use std::fmt::Write;
 
 /// The numbers of refusals that some call can answer, and 0.
-const NUMBERS: [u32; 22] = [0, 1, 2, 3, 4, 5, 6, 7, 8, 9, 10, 11, 12, 13, 14, 15, 16, 17, 18, 19, 20, 21];
-const CALLS: usize = 24;
+const NUMBERS: [u32; 21] = [0, 1, 2, 3, 4, 5, 6, 7, 8, 9, 10, 11, 12, 13, 14, 16, 17, 18, 19, 20, 21];
+const CALLS: usize = 23;
 
 #[derive(Clone, Copy, PartialEq, Eq)]
 pub enum Call {
@@ -16,7 +16,6 @@ pub enum Call {
     Void,
     Relocate,
     Tidy,
-    Scrub,
     Certificate,
     FdtCheck,
     FdtFind,
@@ -44,7 +43,6 @@ impl Call {
         Call::Void,
         Call::Relocate,
         Call::Tidy,
-        Call::Scrub,
         Call::Certificate,
         Call::FdtCheck,
         Call::FdtFind,
@@ -73,7 +71,6 @@ impl Call {
             Call::Void => "tl_void",
             Call::Relocate => "tl_relocate",
             Call::Tidy => "tl_tidy",
-            Call::Scrub => "tl_scrub",
             Call::Certificate => "tl_certificate",
             Call::FdtCheck => "tl_fdt_check",
             Call::FdtFind => "tl_fdt_find",
@@ -93,29 +90,27 @@ impl Call {
     }
 
     /// The numbers the call can answer: those of "When a call is turned away" that concern it, and those of
-    /// document 02, requests 5, 6, 9 and 10. After a refusal a step gives the same answer again.
-    pub(crate) fn possible(self) -> &'static [u32] {
+    /// document 02, requests 5, 6 and 9. After a refusal a step gives the same answer again.
+    fn possible(self) -> &'static [u32] {
         match self {
             Call::Check | Call::Check09 => &[0, 1, 2, 3, 4, 6, 7, 8],
             Call::Find | Call::Find09 => &[0, 1, 2, 3, 4, 6, 7, 8, 9, 13],
             Call::Create => &[0, 1, 2],
-            Call::Add => &[0, 1, 2, 3, 4, 5, 6, 7, 8, 9, 10, 14, 15],
-            Call::AddAligned => &[0, 1, 2, 3, 4, 5, 6, 7, 8, 9, 10, 11, 14, 15],
-            Call::Void => &[0, 1, 2, 3, 4, 5, 6, 7, 8, 9, 13, 15],
-            Call::Tidy => &[0, 1, 2, 3, 4, 5, 6, 7, 8, 15],
-            Call::Scrub => &[0, 1, 2, 3, 4, 5, 6, 7, 8],
+            Call::Add => &[0, 1, 2, 3, 4, 5, 6, 7, 8, 9, 10, 14],
+            Call::AddAligned => &[0, 1, 2, 3, 4, 5, 6, 7, 8, 9, 10, 11, 14],
+            Call::Void => &[0, 1, 2, 3, 4, 5, 6, 7, 8, 9, 13],
+            Call::Tidy => &[0, 1, 2, 3, 4, 5, 6, 7, 8],
             Call::Certificate => &[0, 1, 2, 3, 4, 6, 7, 8, 18, 19, 20],
             Call::FdtCheck => &[0, 21],
             Call::FdtFind => &[0, 13, 21],
-            Call::Relocate => &[0, 1, 2, 3, 4, 5, 6, 7, 8, 12, 14, 15],
-            Call::Convert09 => &[0, 1, 2, 3, 4, 5, 6, 7, 8, 12, 14],
-            Call::AddJournalled | Call::AddSteps => &[0, 1, 2, 3, 4, 5, 6, 7, 8, 9, 10, 14, 15, 16],
+            Call::Relocate | Call::Convert09 => &[0, 1, 2, 3, 4, 5, 6, 7, 8, 12, 14],
+            Call::AddJournalled | Call::AddSteps => &[0, 1, 2, 3, 4, 5, 6, 7, 8, 9, 10, 14, 16],
             Call::AddAlignedJournalled | Call::AddAlignedSteps => {
-                &[0, 1, 2, 3, 4, 5, 6, 7, 8, 9, 10, 11, 14, 15, 16]
+                &[0, 1, 2, 3, 4, 5, 6, 7, 8, 9, 10, 11, 14, 16]
             }
-            Call::VoidJournalled | Call::VoidSteps => &[0, 1, 2, 3, 4, 5, 6, 7, 8, 9, 13, 15, 16],
+            Call::VoidJournalled | Call::VoidSteps => &[0, 1, 2, 3, 4, 5, 6, 7, 8, 9, 13, 16],
             Call::Recover | Call::RecoverSteps => &[0, 17],
-            Call::Step => &[0, 1, 2, 3, 4, 5, 6, 7, 8, 9, 10, 11, 13, 14, 15, 16, 17],
+            Call::Step => &[0, 1, 2, 3, 4, 5, 6, 7, 8, 9, 10, 11, 13, 14, 16, 17],
         }
     }
 }

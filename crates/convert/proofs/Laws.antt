@@ -1,21 +1,18 @@
 -- A conversion's place in the target, and that the bytes that it writes are those of the rule.
-use mathlib.Core.Path.{◌≡◌, sym, ap, ◌∙◌, subst}
+use mathlib.Core.Path.{◌≡◌, ap, ◌∙◌}
 use Prim.Native.Nat.{ℕ, ◌+◌, ◌-◌, ◌^◌, ◌≤◌, ◌<◌}
 use native.Mathlib.Omega.{arith}
-use mathlib.Core.List.{List, ◌++◌, map}
+use mathlib.Core.List.{List, ◌++◌}
 use lib.ListN.{length, take, drop, set, length-set}
 use lib.Seq.{take_all, set-append_left}
 use lib.Bits.{bit_xor}
 use lib.Dec.{ltb}
 use Rattle.wire.specs.Bytes.{xor, splice}
 use Rattle.rules.specs.declared.Header.{Header}
-use Rattle.rules.specs.declared.Entry.{Entry}
 use Rattle.rules.specs.declared.Facts.{Facts}
 use Rattle.rules.specs.declared.Checked.TheVariants.{Accepted}
-use Rattle.rules.specs.Header.{header_of, header_bytes, header_size, current_version}
-use Rattle.rules.specs.Entries.{entries_of}
+use Rattle.rules.specs.Header.{header_of, header_bytes, header_size}
 use Rattle.rules.specs.Checksum.{seal}
-use Rattle.rules.specs.Leftovers.{leftover, zeroed}
 use Rattle.rules.specs.Refusals.{refuses_target}
 use Rattle.rules.specs.Relocate.{in_target}
 use Rattle.rules.specs.Edition09.{
@@ -31,15 +28,10 @@ use Rattle.rules.specs.Edition09.{
   convert_to,
   convert,
 }
-use Rattle.laws.proofs.Check.{Sound, used-least, used-most}
-use Rattle.laws.proofs.Row.{Row, later}
-use Rattle.laws.proofs.Lists.{length_part}
+use Rattle.laws.proofs.Check.{Sound, used-least}
 use Rattle.laws.proofs.FreshList.{length-header_bytes}
 use Rattle.laws.proofs.Ready.{used_of}
-use Rattle.laws.proofs.Target.{length_target, target_part}
-use Rattle.laws.proofs.Grown.{old-length, Grown, grown, grown_fresh, laid_row, laid_wiped}
-use Rattle.scrub.specs.Between.{entries_between}
-use Rattle.scrub.proofs.Laws.{between_row}
+use Rattle.laws.proofs.Grown.{old-length, Grown, grown, grown_fresh}
 use Rattle.destination.specs.Place.{shift_by, placed}
 use Rattle.destination.proofs.Laws.{outcome_at, outcome_placed, laid_before}
 
@@ -73,7 +65,7 @@ new_header a room = header_bytes (grown_header (header_of a) room)
 abbrev sealed_header : List ℕ → ℕ → List ℕ
 sealed_header a room = set (new_header a room) 4 (bit_xor (xor (new_header a room)) (xor (old_entries a)))
 
-module _ (a : List ℕ) (base : ℕ) (s : Sound edition09 a base) (v : (header_of a).version ≡ current_version) where
+module _ (a : List ℕ) (base : ℕ) (s : Sound edition09 a base) where
   -- with the entries behind it, it is what the rule converts to
   sealed : (room : ℕ) → room < 2 ^ 32 → used_of a + growth ≤ room → sealed_header a room ++ old_entries a ≡ converted a room
   unfolding converted seal
@@ -83,7 +75,7 @@ module _ (a : List ℕ) (base : ℕ) (s : Sound edition09 a base) (v : (header_o
       let l : length h ≡ header_size = length-header_bytes (grown_header (header_of a) room) in
       let g : Grown (header_of a) room (h ++ e) =
       grown (header_of a) room e (omega (arith, s.header.sizes.most)) (omega arith) (omega arith) in
-      let u : used_of (h ++ e) ≡ header_size + length e = omega (arith, g.used, old-length a base s v, used-least edition09 a base s) in
+      let u : used_of (h ++ e) ≡ header_size + length e = omega (arith, g.used, old-length a base s, used-least edition09 a base s) in
       rw (grown_fresh (header_of a) room e g u, set-append_left h e 4 (bit_xor (xor h) (xor e)) (omega arith))
 
   -- the entries laid out in a target, and it put before them
@@ -94,48 +86,14 @@ module _ (a : List ℕ) (base : ℕ) (s : Sound edition09 a base) (v : (header_o
       let l : length m ≡ header_size = length-set (new_header a (len - by)) 4 _ ∙ length-header_bytes (grown_header (header_of a) (len - by)) in
       rw l at (laid_before len by m (old_entries a)) ∙ ap (in_target len by) (sealed (len - by) (omega arith) (omega arith))
 
-  -- the entries as they stand: as many bytes as without their leftovers
-  abbrev raw : ℕ → List ℕ
-  raw used = take (used - 16) (drop 16 a)
-
-  raw_length : length (raw (used_of a)) ≡ length (old_entries a)
-  raw_length = length_part a 16 (used_of a - 16) (omega (arith, used-least edition09 a base s, used-most edition09 a base s)) ∙ sym (old-length a base s v)
-
-  -- laid out in the target by the header that was read
-  module _ (h : Header) (eh : h ≡ header_of a) (len by : ℕ) (short : len < 2 ^ 32) (fits : by + (h.used_size + growth) ≤ len) where
-    abbrev laid : List ℕ
-    laid = in_target len (by + 24) (raw h.used_size)
-
-    abbrev end : ℕ
-    end = by + 24 + length (raw h.used_size)
-
-    abbrev further : List Entry
-    further = map (later (by + growth)) (entries_of a)
-
-    row : Row laid (by + 24) end further
-    row = rw eh (laid_row a base s v len by (rw eh at fits))
-
-    -- they are a row there,
-    pub laid_ready : (t : List ℕ) → t ≡ laid → Row t (by + 24) end (entries_between t (by + 24) end) × (end ≤ length t) × (end < 2 ^ 32)
-    laid_ready t et =
-        let n : end ≤ len = rw eh (omega (arith, raw_length, old-length a base s v, used-least edition09 a base s, rw eh at fits)) in
-        let l : length laid ≡ len = length_target len (by + 24) (raw h.used_size) n in
-        rw et (subst (Row laid (by + 24) end) (sym (between_row laid (by + 24) end further row)) row, omega arith, omega arith)
-
-    -- without their leftovers the rule's
-    pub laid_zeroed : (t : List ℕ) → t ≡ laid
-        → zeroed (map leftover (entries_between t (by + 24) end)) t ≡ in_target len (by + header_size) (old_entries a)
-    laid_zeroed t et =
-        let z : zeroed (map leftover further) laid ≡ in_target len (by + header_size) (old_entries a) =
-        rw eh (laid_wiped a base s v len by (rw eh at fits)) in
-        rw et (ap (λ (es : List Entry). zeroed (map leftover es) laid) (between_row laid (by + 24) end further row) ∙ z)
-
-    -- and the header put before them, its bytes b, with the two exclusive ors, makes the rule's target
-    pub target_read : (w b : List ℕ) (x y : ℕ) → w ≡ in_target len (by + header_size) (old_entries a) → b ≡ header_bytes (grown_header h (len - by))
-        → x ≡ xor (take 24 (drop 0 b)) → y ≡ xor (take (length (raw h.used_size)) (drop (by + 24) w))
-        → splice w by (set b 4 (bit_xor x y)) ≡ converted_bytes a by len
-    target_read w b x y ew eb ex ey =
-        let n : List ℕ = new_header a (len - by) in
-        let p : take 24 n ≡ n = take_all 24 n (omega (arith, length-header_bytes (grown_header (header_of a) (len - by)))) in
-        let q = target_part len (by + header_size) (old_entries a) in
-        rw (ex, ey, eb, ew, eh, p, raw_length, q) (target_written len by short (rw eh at fits))
+  -- the same by the header that was read, and by what was made of it: the header's bytes, and the two exclusive ors
+  pub target_read : (h : Header) (len by : ℕ) (b : List ℕ) (x y : ℕ) → h ≡ header_of a → let e = take (h.used_size - 16) (drop 16 a) in
+      b ≡ header_bytes (grown_header h (len - by)) → x ≡ xor (take 24 (drop 0 b)) → y ≡ xor (take (length e) (drop 0 e)) → len < 2 ^ 32
+      → by + (h.used_size + growth) ≤ len → splice (in_target len (by + 24) e) by (set b 4 (bit_xor x y)) ≡ converted_bytes a by len
+  unfolding old_entries
+  target_read h len by b x y eh eb ex ey short fits =
+      let e : List ℕ = old_entries a in
+      let n : List ℕ = new_header a (len - by) in
+      let p : take 24 n ≡ n = take_all 24 n (omega (arith, length-header_bytes (grown_header (header_of a) (len - by)))) in
+      let q : take (length e) e ≡ e = take_all (length e) e (omega arith) in
+      rw (ex, ey, eb, eh, p, q) (target_written len by short (rw eh at fits))

@@ -22,7 +22,7 @@ fn grown_header(h: Header, room: usize) -> Header
     new
 }
 
-// The target's bytes: zeros, the new header with its checksum, the entries without their leftovers, zeros.
+// The target's bytes: zeros, the new header with its checksum, the entries as they stand, zeros.
 fn write_target(area: &[u8], base: u64, h: Header, target: &mut [u8], shift: usize)
     requires { AdmittedIn edition09 area.now base h × (shift + (h.used_size + growth) ≤ length target.old) × (length target.old < 2 ^ 32) }
     ensures { target.new ≡ converted_bytes area.now shift (length target.old) }
@@ -33,10 +33,8 @@ fn write_target(area: &[u8], base: u64, h: Header, target: &mut [u8], shift: usi
     let entries = &area[old_size..used];
     let mut header = [0u8; 24];
     create::write_header(&mut header, grown_header(h, target.len() - shift));
-    let first = shift + size;
-    destination::lay_out(target, first, entries);
-    scrub::zero_leftovers(target, first, first + entries.len());
-    header[4] = wire::xor_part(&header, 0, size) ^ wire::xor_part(target, first, entries.len());
+    header[4] = wire::xor_part(&header, 0, size) ^ wire::xor_part(entries, 0, entries.len());
+    destination::lay_out(target, shift + size, entries);
     wire::copy_part(target, shift, &header);
 }
 

@@ -26,12 +26,11 @@ use Rattle.rules.specs.Demand3.{AcceptedV1, Holds, Live, live_in, reading, chang
 use Rattle.laws.proofs.Walk.{neither}
 use Rattle.laws.proofs.Passed.{tag_range}
 use Rattle.laws.proofs.EntryBytes.{length-entry_bytes}
-use Rattle.laws.proofs.Live.{live-length, Read, read_none, read-append, put_in_lem}
+use Rattle.laws.proofs.Live.{live-length, Read, read_none, read_append, put_in_lem}
 use Rattle.laws.proofs.Seal.{seal-field}
 use Rattle.laws.proofs.Ready.{Ready, ready_of, ready_low, used_of, total_of}
-use Rattle.laws.proofs.Written.{written_right, written_entry, entry_of}
+use Rattle.laws.proofs.Written.{written_right, written_entry}
 use Rattle.laws.proofs.Change.{Put, put_splice, put_used, change_end}
-use Rattle.laws.proofs.Clean.{Clean, Swept, swept_append, swept_entry, clean_end}
 use Rattle.demand3.proofs.InPlace.{passed, in_place_holds}
 use Rattle.demand3.proofs.AddVoid.{filling, add-void_holds}
 
@@ -76,13 +75,12 @@ put_last a es x =
 
 -- an entry, with the voids xs before it, is appended, and the list sealed
 pub end_holds : (e : Edit) (a : List ℕ) (base tag value : ℕ) (content bytes c pad : List ℕ) (xs : List Entry) → 0 < tag → tag < 2 ^ 24
-    → AcceptedV1 a base → Clean a (entries_of a) → AtEnd a c (pad ++ entry_bytes tag content) → Read c (used_of a) (used_of a + length pad) xs []
-    → Swept c xs
+    → AcceptedV1 a base → AtEnd a c (pad ++ entry_bytes tag content) → Read c (used_of a) (used_of a + length pad) xs []
     → destination e ≡ in_place → stretches e a (seal c) ≡ old_used_to_new a (seal c) ∷ header_stretches → seal c ≡ bytes
     → changed e a (reading a) ≡ put_in (live_count (entries_of a)) (record { tag = tag; content = content }) (reading a)
     → KeepsAddresses e a base (seal c) base → Holds e a base value bytes
 unfolding header_of reading
-end_holds e a base tag value content bytes c pad xs solid low accepted zeros k before wiped d s is live addresses =
+end_holds e a base tag value content bytes c pad xs solid low accepted k before d s is live addresses =
     let r : Ready a base (entries_of a) = ready_of a base accepted in
     let v : ℕ = field a 8 4 + length pad in
     let t : Put a c (used_of a) (pad ++ entry_bytes tag content) = k.put in
@@ -94,18 +92,16 @@ end_holds e a base tag value content bytes c pad xs solid low accepted zeros k b
     let w = written_right c (used_of a) pad (entry_bytes tag content) (length pad) refl t.written in
     let x = rw q at (written_entry c v tag content solid low (omega (arith, k.fits)) (omega (arith, k.fits, t.size, r.header.sizes.total)) w) in
     in_place_holds e a base value bytes d is (rw (s, seal-field c 8 4 (omega arith), used)) (ready_low a base (entries_of a) r) t
-    (change_end (entries_of a) r t k.least k.most (rw used k.fits) r.row (read-append before x))
-    (clean_end (entries_of a) (xs ++ (entry_of v tag (length content) ∷ [])) t r.row zeros used
-    (swept_append c xs (entry_of v tag (length content) ∷ []) wiped (swept_entry c v tag content solid w)))
+    (change_end (entries_of a) r t k.least k.most (rw used k.fits) r.row (read_append before x))
     (rw live (put_last a (entries_of a) (record { tag = tag; content = content }))) addresses
 
 -- ---- add
 
 -- Demand 3 for add
 pub add_holds : (a : List ℕ) (base tag value : ℕ) (content : List ℕ) (use_voids : Bool) (bytes : List ℕ) → AcceptedV1 a base
-    → Clean a (entries_of a) → add a tag content use_voids ≡ done value bytes → Holds (to_add tag content use_voids) a base value bytes
+    → add a tag content use_voids ≡ done value bytes → Holds (to_add tag content use_voids) a base value bytes
 unfolding add add_in_void add_at_end
-add_holds a base tag value content use_voids bytes accepted zeros h =
+add_holds a base tag value content use_voids bytes accepted h =
     let x : Outcome = add_at a tag content (taken_void use_voids (length content) a) in
     let k₁ = passed (refuses_tag_add tag) Tag (cond (refuses_shape tag (length content)) (refused Shape) x) value bytes h in
     let k₂ = passed (refuses_shape tag (length content)) Shape x value bytes k₁.1 in
@@ -116,7 +112,7 @@ add_holds a base tag value content use_voids bytes accepted zeros h =
         → Holds (to_add tag content use_voids) a base value bytes
     go (some e) f s l y =
         let b : seal (splice a e.at (filling tag content e.data_size)) ≡ bytes = cc in
-        add-void_holds a base tag value content use_voids bytes e s l f b accepted zeros
+        add-void_holds a base tag value content use_voids bytes e s l f b accepted
     go none f s l y =
         let end : Outcome = done (used_of a + entry_header_size) (seal (append a (entry_bytes tag content))) in
         let k = passed (ltb (room a) (entry_span (length content))) Room end value bytes y in
@@ -124,5 +120,5 @@ add_holds a base tag value content use_voids bytes accepted zeros h =
         let b : seal (append a (entry_bytes tag content)) ≡ bytes = cc in
         let new : List ℕ = entry_bytes tag content in
         let t = at_end_lem a base (entries_of a) new (ready_of a base accepted) (rw (length-entry_bytes tag content) k.0) in
-        end_holds (to_add tag content use_voids) a base tag value content bytes (append a new) [] [] s l accepted zeros t
-        (read_none _ (used_of a) (used_of a + 0) (omega arith)) tt refl (rw f) b (rw f) tt
+        end_holds (to_add tag content use_voids) a base tag value content bytes (append a new) [] [] s l accepted t
+        (read_none _ (used_of a) (used_of a + 0) (omega arith)) refl (rw f) b (rw f) tt

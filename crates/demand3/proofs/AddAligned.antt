@@ -40,7 +40,6 @@ use Rattle.laws.proofs.Live.{Read, read_none}
 use Rattle.laws.proofs.Ready.{Ready, ready_of, ready_low, ready_top, used_of}
 use Rattle.laws.proofs.Written.{Written, written_left, written_void, entry_of}
 use Rattle.laws.proofs.Change.{put_alignment}
-use Rattle.laws.proofs.Clean.{Clean, Swept, swept_void}
 use Rattle.demand3.proofs.InPlace.{passed}
 use Rattle.demand3.proofs.Add.{AtEnd, at_end_lem, end_holds}
 
@@ -69,7 +68,7 @@ padding8 m x m8 pos x8 =
 -- the padding that stands at p is a void or nothing
 padding-void : (c : List ℕ) (p exponent x : ℕ) → least_alignment ≤ exponent → x % 8 ≡ 0 → length (padding_void exponent (x % 2 ^ exponent)) < 2 ^ 32
     → Written c p (padding_void exponent (x % 2 ^ exponent))
-    → (xs : List Entry) × Read c p (p + length (padding_void exponent (x % 2 ^ exponent))) xs [] × Swept c xs
+    → (xs : List Entry) × Read c p (p + length (padding_void exponent (x % 2 ^ exponent))) xs []
 unfolding padding_void void_bytes
 padding-void c p exponent x least x8 short w = go (eqb (x % 2 ^ exponent) 0) short w
   where
@@ -77,18 +76,16 @@ padding-void c p exponent x least x8 short w = go (eqb (x % 2 ^ exponent) 0) sho
     m = 2 ^ exponent - x % 2 ^ exponent - 8
 
     go : (b : Bool) → length (cond b [] (void_bytes m)) < 2 ^ 32 → Written c p (cond b [] (void_bytes m))
-        → (xs : List Entry) × Read c p (p + length (cond b [] (void_bytes m))) xs [] × Swept c xs
-    go true s y = ([], read_none c p (p + 0) (omega arith), tt)
+        → (xs : List Entry) × Read c p (p + length (cond b [] (void_bytes m))) xs []
+    go true s y = ([], read_none c p (p + 0) (omega arith))
     go false s y =
         let l : length (void_bytes m) ≡ 8 + m = length-void_bytes m in
         let m8 : m % 8 ≡ 0 = padding8 (2 ^ exponent) x (power_eights exponent least) (power_positive exponent) x8 in (
           entry_of p 0 m ∷ [],
           written_void c p m (p + length (void_bytes m)) (omega arith) m8 (omega arith) (written_left c p (entry_header 0 m) (replicate m 0) y),
-          swept_void c p m m8 y,
         )
 
-module _ (a : List ℕ) (base tag value : ℕ) (content : List ℕ) (exponent : ℕ) (bytes : List ℕ) (accepted : AcceptedV1 a base)
-    (zeros : Clean a (entries_of a)) where
+module _ (a : List ℕ) (base tag value : ℕ) (content : List ℕ) (exponent : ℕ) (bytes : List ℕ) (accepted : AcceptedV1 a base) where
   -- the padding void, if any, and the entry at used_size
   aligned-end : 0 < tag → tag < 2 ^ 24 → least_alignment ≤ exponent → exponent ≤ max_alignment
       → ltb (room a) (length (aligned_bytes a base tag content exponent)) ≡ false
@@ -111,8 +108,7 @@ module _ (a : List ℕ) (base tag value : ℕ) (content : List ℕ) (exponent : 
       let short : length pad < 2 ^ 32 = omega (arith, k.fits, z.total, r.header.usable.short) in
       let b = padding-void c u exponent at least (omega (arith, r.header.usable.base8, z.used8)) short
       (written_left c u pad (entry_bytes tag content) k.put.written) in
-      end_holds (to_add_aligned tag content exponent) a base tag value content bytes c pad b.0 solid low accepted zeros k b.1 b.2 refl refl is refl
-      tt
+      end_holds (to_add_aligned tag content exponent) a base tag value content bytes c pad b.0 solid low accepted k b.1 refl refl is refl tt
 
   -- Demand 3 for add aligned
   pub add-aligned_holds : add_aligned a base tag content exponent ≡ done value bytes → Holds (to_add_aligned tag content exponent) a base value bytes

@@ -5,27 +5,23 @@ use native.Mathlib.Omega.{arith}
 use mathlib.Core.Bool.{Bool, true, false, cond}
 use mathlib.Core.List.{List, [], ◌∷◌, ◌++◌}
 use mathlib.Core.Option.{some}
-use lib.ListN.{length, get_or, length-append}
+use lib.ListN.{length, length-append}
 use lib.Dec.{leb}
 use borrow.Author.Tests.{leb-true, leb-false}
 use Rattle.wire.specs.Bytes.{splice}
-use Rattle.wire.proofs.Splice.{get_or-splice-behind}
 use Rattle.rules.specs.declared.Entry.{Entry}
 use Rattle.rules.specs.Area.{max_length}
 use Rattle.rules.specs.Header.{header_size}
 use Rattle.rules.specs.Entries.{entry_header, is_void, span, entries_of, live_count}
 use Rattle.rules.specs.Checksum.{seal}
-use Rattle.rules.specs.Leftovers.{leftover}
 use Rattle.rules.specs.Add.{entry_span, entry_bytes, taken_void, remainder, void_behind, first_fit}
 use Rattle.rules.specs.Edit.{to_add}
 use Rattle.rules.specs.Demand3.{AcceptedV1, Holds, Live, live_in, reading, put_in, live_before}
 use Rattle.laws.proofs.EntryBytes.{length-entry_bytes, length-entry_header}
-use Rattle.laws.proofs.Live.{Read, read_none, read-append, first_fit_lem, live-append, live-length, before_all, before_none, put_in_lem}
+use Rattle.laws.proofs.Live.{Read, read_none, read_append, first_fit_lem, live-append, live-length, before_all, before_none, put_in_lem}
 use Rattle.laws.proofs.Ready.{Ready, ready_of, used_of}
 use Rattle.laws.proofs.Written.{Written, written_left, written_right, written_void, written_entry, entry_of}
 use Rattle.laws.proofs.Change.{Put, put_splice, Placed, placed, change_within}
-use Rattle.laws.proofs.Zeroed.{Zero}
-use Rattle.laws.proofs.Clean.{Clean, Swept, swept_part, swept_entry, clean-within}
 use Rattle.demand3.proofs.InPlace.{in_place_holds}
 
 -- the bytes that an add writes over a void of v bytes of data
@@ -41,30 +37,18 @@ behind-fits v n = go (leb 8 (remainder v n)) refl
     go true k = rw length-entry_header (leb-true 8 (remainder v n) k)
     go false k = omega arith
 
--- it is no more than a header
-behind-header : (v n : ℕ) → length (void_behind v n) ≤ 8
-unfolding void_behind
-behind-header v n = go (leb 8 (remainder v n))
-  where
-    go : (b : Bool) → length (cond b (entry_header 0 (remainder v n - 8)) []) ≤ 8
-    go true = rw length-entry_header (omega arith)
-    go false = omega arith
-
--- and makes a void of what is left, if anything is; its data is the old void's
+-- and makes a void of what is left, if anything is
 behind-void : (c : List ℕ) (p v n q : ℕ) → p + remainder v n ≡ q → v % 8 ≡ 0 → v < 2 ^ 32 → Written c p (void_behind v n)
-    → ((i : ℕ) → p + 8 ≤ i → i < q → get_or c i 0 ≡ 0) → (ys : List Entry) × Read c p q ys [] × Swept c ys
+    → (ys : List Entry) × Read c p q ys []
 unfolding void_behind
-behind-void c p v n q e v8 h w zeros = go (leb 8 (remainder v n)) refl w
+behind-void c p v n q e v8 h w = go (leb 8 (remainder v n)) refl w
   where
     go : (b : Bool) → leb 8 (remainder v n) ≡ b → Written c p (cond b (entry_header 0 (remainder v n - 8)) [])
-        → (ys : List Entry) × Read c p q ys [] × Swept c ys
+        → (ys : List Entry) × Read c p q ys []
     go true k x =
-        let l : 8 ≤ remainder v n = leb-true 8 (remainder v n) k in (
-          entry_of p 0 (remainder v n - 8) ∷ [],
-          written_void c p (remainder v n - 8) q (omega arith) (omega arith) (omega arith) x,
-          (λ i y z. zeros i (omega arith) (omega arith), tt),
-        )
-    go false k x = let l : remainder v n < 8 = leb-false 8 (remainder v n) k in ([], read_none c p q (omega arith), tt)
+        let l : 8 ≤ remainder v n = leb-true 8 (remainder v n) k in
+        (entry_of p 0 (remainder v n - 8) ∷ [], written_void c p (remainder v n - 8) q (omega arith) (omega arith) (omega arith) x)
+    go false k x = let l : remainder v n < 8 = leb-false 8 (remainder v n) k in ([], read_none c p q (omega arith))
 
 -- the new entry's position among the live ones: behind those before the void
 put_there : (a : List ℕ) (xs : List Entry) (e : Entry) (ys : List Entry) (x : Live) → Placed a xs e ys → is_void e ≡ true
@@ -80,10 +64,10 @@ module _ (a : List ℕ) (base tag value : ℕ) (content : List ℕ) (use_voids :
     (low : tag < 2 ^ 24) (found : taken_void use_voids (length content) a ≡ some e)
     (is : seal (splice a e.at (filling tag content e.data_size)) ≡ bytes) where
   -- the entry in the place of the void e
-  filled : (xs ys : List Entry) → entries_of a ≡ xs ++ (e ∷ ys) → Ready a base (xs ++ (e ∷ ys)) → Clean a (xs ++ (e ∷ ys)) → is_void e ≡ true
+  filled : (xs ys : List Entry) → entries_of a ≡ xs ++ (e ∷ ys) → Ready a base (xs ++ (e ∷ ys)) → is_void e ≡ true
       → length content ≤ e.data_size → Holds (to_add tag content use_voids) a base value bytes
   unfolding reading
-  filled xs ys whole r zeros empty fits =
+  filled xs ys whole r empty fits =
       let p : Placed a xs e ys = placed a base xs e ys r in
       let n : ℕ = length content in
       let v : ℕ = e.data_size in
@@ -99,25 +83,18 @@ module _ (a : List ℕ) (base tag value : ℕ) (content : List ℕ) (use_voids :
       let short : length a ≤ max_length = r.header.usable.short in
       let t : Put a c e.at new = put_splice a e.at new (omega arith) in
       let y = written_right c e.at (entry_bytes tag content) (void_behind v n) (entry_span n) le t.written in
-      let old : Zero a (leftover e) = (swept_part a xs (e ∷ ys) zeros.rows).1.0 in
-      let unwritten : (i : ℕ) → s + 8 ≤ i → i < e.at + span e → get_or c i 0 ≡ 0 =
-      λ i l h.
-      get_or-splice-behind a e.at new (omega arith) i (omega (arith, behind-header v n))
-      ∙ old i (rw empty (omega (arith, p.regular.header))) h in
-      let b = behind-void c s v n (e.at + span e) (omega arith) v8 (omega arith) y unwritten in
+      let b = behind-void c s v n (e.at + span e) (omega arith) v8 (omega arith) y in
       let x = written_left c e.at (entry_bytes tag content) (void_behind v n) t.written in
       let k = written_entry c e.at tag content solid low (omega arith) (omega (arith, t.size)) x in
       in_place_holds (to_add tag content use_voids) a base value bytes refl is (rw (found, ln)) p.low t
-      (change_within (e.at + span e) xs ys r t (omega arith) p.front p.back (read-append k b.1))
-      (clean-within (entry_of e.at tag n ∷ b.0) t p zeros (omega arith) ll ((swept_entry c e.at tag content solid x).0, b.2))
+      (change_within (e.at + span e) xs ys r t (omega arith) p.front p.back (read_append k b.1))
       (rw (found, whole) (sym (put_there a xs e ys (record { tag = tag; content = content }) p empty))) tt
 
   -- the entry in the place of the void that is taken
-  pub add-void_holds : AcceptedV1 a base → Clean a (entries_of a) → Holds (to_add tag content use_voids) a base value bytes
-  add-void_holds accepted zeros =
+  pub add-void_holds : AcceptedV1 a base → Holds (to_add tag content use_voids) a base value bytes
+  add-void_holds accepted =
       let k = first_fit_lem (length content) (entries_of a) e (seek use_voids found) in
-      filled k.0.before k.0.behind k.0.whole (subst (Ready a base) k.0.whole (ready_of a base accepted))
-      (subst (Clean a) k.0.whole zeros) k.1 k.2
+      filled k.0.before k.0.behind k.0.whole (subst (Ready a base) k.0.whole (ready_of a base accepted)) k.1 k.2
     where
       seek : (b : Bool) → taken_void b (length content) a ≡ some e → first_fit (length content) (entries_of a) ≡ some e
       seek true h = h

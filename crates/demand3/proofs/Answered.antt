@@ -1,21 +1,26 @@
 -- Demand 3 of a call's answer: an edit whose number is 0 was not refused, so its list was accepted and the theorem holds of what it left.
-use mathlib.Core.Path.{◌≡◌, ap}
+use mathlib.Core.Path.{◌≡◌, refl, ap}
 use Prim.Native.Nat.{ℕ, ◌<◌}
 use native.Mathlib.Omega.{arith}
 use mathlib.Core.List.{List}
 use Rattle.rules.specs.declared.Refusal.{Refusal}
 use Rattle.rules.specs.declared.Refusal.TheVariants as refusal
 use Rattle.rules.specs.declared.DoneAnswer.{DoneAnswer}
+use Rattle.rules.specs.Edition.{current}
 use Rattle.rules.specs.Refusals.{number_of}
+use Rattle.rules.specs.Check.{admit}
 use Rattle.rules.specs.Outcome.{Outcome, refused, done, answer, bytes_after, done_answer}
-use Rattle.rules.specs.Edit.{Edit, run, destination, lent}
+use Rattle.rules.specs.Edit.{Edit, act, run, destination, lent}
 use Rattle.rules.specs.Demand3.{AcceptedV1, Keeps, Promised}
-use Rattle.demand3.proofs.InPlace.{ran}
+use Rattle.laws.proofs.Ready.{accepted}
+use Rattle.demand3.proofs.InPlace.{admitted_done}
 use Rattle.demand3.proofs.Demand3.{demand3}
 
 -- an edit that is done was admitted, so its list is accepted and of version 1
 pub done_listed : (e : Edit) (a : List ℕ) (base value : ℕ) (bytes : List ℕ) → run e a base ≡ done value bytes → AcceptedV1 a base
-done_listed e a base value bytes h = (ran e a base value bytes h).listed
+done_listed e a base value bytes h =
+    let k = admitted_done current a base (admit a base) (act e a base) value bytes refl h in
+    accepted a base k.0 k.1
 
 -- no refusal has the number 0
 numbered : (r : Refusal) → 0 < number_of r
@@ -33,7 +38,6 @@ numbered refusal.Align = omega arith
 numbered refusal.Target = omega arith
 numbered refusal.None = omega arith
 numbered refusal.Room = omega arith
-numbered refusal.Dirty = omega arith
 
 -- a call that answers the number 0 of an outcome, and leaves its bytes, was done with this answer and these bytes
 pub answered-done : (before : List ℕ) (o : Outcome) (r : DoneAnswer) (bytes : List ℕ) → r ≡ done_answer (answer o) → bytes ≡ bytes_after before o

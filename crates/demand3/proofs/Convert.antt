@@ -1,5 +1,5 @@
 -- What a conversion from edition 0.9 gives: an accepted list of version 1 with a fresh checksum, the same reading, and data addresses
--- that are equal modulo 2^alignment, and it is clean. The entries stand eight bytes further on, without leftovers, and are read alike.
+-- that are equal modulo 2^alignment. The entries stand eight bytes further on and are read alike.
 use mathlib.Core.Path.{◌≡◌, refl, sym, ap, ◌∙◌, subst}
 use Prim.Native.Nat.{ℕ, ◌+◌, ◌-◌, ◌%◌, ◌^◌, ◌≤◌}
 use native.Mathlib.Omega.{arith}
@@ -23,7 +23,6 @@ use Rattle.rules.specs.Edition09.{
   edition09,
   admit09,
   growth,
-  scrubbed09,
   old_entries,
   grown_header,
   converted,
@@ -43,13 +42,12 @@ use Rattle.laws.proofs.Live.{Read, read_agree}
 use Rattle.laws.proofs.Power.{power_positive, power_eights, eights_same}
 use Rattle.laws.proofs.NewBase.{grown_base-least, grown_base-mod, addresses-later}
 use Rattle.laws.proofs.FreshList.{length-header_bytes}
-use Rattle.laws.proofs.Ready.{Ready, ready_by, used_of, total_of}
+use Rattle.laws.proofs.Ready.{Ready, ready_by, row_sound, used_of}
 use Rattle.laws.proofs.Seal.{seal-length}
 use Rattle.laws.proofs.Target.{length_target, sealed_target}
-use Rattle.laws.proofs.Grown.{old_wiped, old-length, unsealed09, Grown, grown}
+use Rattle.laws.proofs.Grown.{old-length, unsealed09, Grown, grown}
 use Rattle.laws.proofs.Change.{Settled, settle}
-use Rattle.laws.proofs.Clean.{Swept, Clean, swept_agree, behind-zeros, clean_sealed, Wiped}
-use Rattle.demand3.proofs.InPlace.{passed, admitted-done}
+use Rattle.demand3.proofs.InPlace.{passed, admitted_done}
 use Rattle.demand3.proofs.Answered.{answered-done}
 
 -- an old list of version 1 that is accepted
@@ -57,10 +55,10 @@ module _ (a : List ℕ) (base : ℕ) (s : Sound edition09 a base) (v : (header_o
   -- it grows by as much as its header does
   unsealed_length : length (unsealed09 a room) ≡ used_of a + growth
   unsealed_length =
-      rw (length-append, length-header_bytes, old-length a base s v) (omega (arith, used-least edition09 a base s))
+      rw (length-append, length-header_bytes, old-length a base s) (omega (arith, used-least edition09 a base s))
 
-  -- each byte of its entries, their leftovers being 0, stands eight bytes further on
-  further : (z : List ℕ) → Agree growth (scrubbed09 a) (unsealed09 a room ++ z) edition09.header_size (used_of a)
+  -- each byte of its entries stands eight bytes further on
+  further : (z : List ℕ) → Agree growth a (unsealed09 a room ++ z) edition09.header_size (used_of a)
   unfolding old_entries
   further z i low high =
       let b : List ℕ = header_bytes (grown_header (header_of a) room) in
@@ -71,8 +69,8 @@ module _ (a : List ℕ) (base : ℕ) (s : Sound edition09 a base) (v : (header_o
       (get_or-append (unsealed09 a room) z 0 (growth + i) (omega (arith, unsealed_length))
       ∙ ap (λ (k : ℕ). get_or (unsealed09 a room) k 0) q
       ∙ get_or-append-add b (old_entries a) j 0
-      ∙ get_d_part (scrubbed09 a) 16 (used_of a - 16) j (omega arith)
-      ∙ ap (λ (k : ℕ). get_or (scrubbed09 a) k 0) p)
+      ∙ get_d_part a 16 (used_of a - 16) j (omega arith)
+      ∙ ap (λ (k : ℕ). get_or a k 0) p)
 
   -- with any bytes behind it, it starts with its fields,
   fields : (z : List ℕ) → room ≤ max_length → used_of a + growth ≤ room → Grown (header_of a) room (unsealed09 a room ++ z)
@@ -83,17 +81,8 @@ module _ (a : List ℕ) (base : ℕ) (s : Sound edition09 a base) (v : (header_o
   -- it is read as before,
   read : (z : List ℕ) → Read (unsealed09 a room ++ z) header_size (growth + used_of a) (map (later growth) (entries_of a)) (live_in a (entries_of a))
   read z =
-      let w : Wiped a (scrubbed09 a) edition09.header_size (used_of a) (entries_of a) = old_wiped a base s v in
-      let top : used_of a ≤ length (scrubbed09 a) = omega (arith, w.size, used-most edition09 a base s) in
-      rw w.read.live at
-      (read_agree growth (scrubbed09 a) (unsealed09 a room ++ z) edition09.header_size (used_of a) (entries_of a) w.read.row top
-      (rw length-append (omega (arith, unsealed_length))) (further z))
-
-  -- none of its entries has leftovers,
-  swept : (z : List ℕ) → Swept (unsealed09 a room ++ z) (map (later growth) (entries_of a))
-  swept z =
-      let w : Wiped a (scrubbed09 a) edition09.header_size (used_of a) (entries_of a) = old_wiped a base s v in
-      swept_agree growth (scrubbed09 a) (unsealed09 a room ++ z) edition09.header_size (used_of a) (entries_of a) w.read.row (further z) w.rows
+      read_agree growth a (unsealed09 a room ++ z) edition09.header_size (used_of a) (entries_of a) (row_sound a base edition09 refl s v)
+      (used-most edition09 a base s) (rw length-append (omega (arith, unsealed_length))) (further z)
 
   -- and it is ready at every base that the room allows
   ready : (z : List ℕ) (new_base : ℕ) → used_of a + growth + length z ≡ room → Usable new_base room
@@ -140,16 +129,8 @@ module _ (a : List ℕ) (base : ℕ) (target : List ℕ) (target_base by : ℕ) 
       let lz : length z ≡ length target - by - length d = length-replicate (length target - by - length d) 0 in
       let usable : Usable (target_base + by) room = record { base8 = base8; reach = omega arith; short = omega arith } in
       let g = fields a base s v room z (omega arith) (omega arith) in
-      let r : Ready c (target_base + by) (map (later growth) es) = ready a base s v room z (target_base + by) (omega arith) usable in
-      let t : Settled c (target_base + by) (map (later growth) es) (seal c) = settle c (target_base + by) (map (later growth) es) r in
-      let total : total_of c ≤ length c = r.header.sizes.total in
-      let lc : length c ≡ length d + length z = length-append d z in
-      let used : used_of c ≡ used_of a + growth = g.used in
-      let zeros : Clean c (map (later growth) es) =
-      record {
-        rows = swept a base s v room z;
-        tail = λ i x y. behind-zeros d (length target - by - length d) i (omega arith) (omega arith);
-      } in
+      let t : Settled c (target_base + by) (map (later growth) es) (seal c) =
+      settle c (target_base + by) (map (later growth) es) (ready a base s v room z (target_base + by) (omega arith) usable) in
       record {
         result = rw (sealed_target (length target) by d (omega (arith, used-least edition09 a base s)) (omega (arith, g.used)))
             (record {
@@ -158,7 +139,6 @@ module _ (a : List ℕ) (base : ℕ) (target : List ℕ) (target_base by : ℕ) 
               checksum = t.checksum;
               live = t.live ∙ (read a base s v room z).live;
               addresses = rw t.walked (addresses-later (2 ^ (header_of a).alignment) base (target_base + by) growth es same);
-              clean = clean_sealed c (target_base + by) (map (later growth) es) r t zeros;
             });
         size = length_target (length target) by (seal d) (omega (arith, seal-length d));
       }
@@ -173,7 +153,7 @@ convert_holds a base target target_base value bytes h =
     let by : ℕ = n - target_base in
     let len : ℕ = length target in
     let end : Outcome = done by (converted_bytes a by len) in
-    let k = admitted-done edition09 a base (admit09 a base) (cond (refuses_target target_base len) (refused Target) (convert_to a by len)) value bytes refl h in
+    let k = admitted_done edition09 a base (admit09 a base) (cond (refuses_target target_base len) (refused Target) (convert_to a by len)) value bytes refl h in
     let k₁ = passed (refuses_target target_base len) Target (convert_to a by len) value bytes k.2 in
     let k₂ = passed (ltb len (by + (used_of a + growth))) Room end value bytes k₁.1 in
     let t = target_reach target_base len k₁.0 in

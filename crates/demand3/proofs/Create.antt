@@ -1,8 +1,8 @@
--- What create writes: a list that is accepted, has no entry, whose checksum is fresh, and that is clean.
-use mathlib.Core.Path.{◌≡◌, refl, sym, subst}
-use Prim.Native.Nat.{ℕ, ◌+◌, ◌-◌, ◌≤◌, ◌<◌}
+-- What create writes: a list that is accepted, has no entry, and whose checksum is fresh.
+use mathlib.Core.Path.{◌≡◌, refl, subst}
+use Prim.Native.Nat.{ℕ, ◌-◌, ◌<◌}
 use native.Mathlib.Omega.{arith}
-use mathlib.Core.Bool.{Bool, true, cond}
+use mathlib.Core.Bool.{Bool, cond}
 use mathlib.Core.List.{List, []}
 use lib.ListN.{length, get_or, length-append, length-replicate}
 use borrow.Author.Tests.{leb-false}
@@ -12,16 +12,14 @@ use Rattle.rules.specs.declared.Refusal.TheVariants.{Area, Short}
 use Rattle.rules.specs.Header.{header_of, header_size, header_bytes, fresh_header, checksum_at}
 use Rattle.rules.specs.Entries.{entries_of}
 use Rattle.rules.specs.Checksum.{fresh_checksum, seal}
-use Rattle.rules.specs.Leftovers.{clean}
 use Rattle.rules.specs.Refusals.{refuses_area, refuses_short_create}
 use Rattle.rules.specs.Outcome.{Outcome, refused, done}
 use Rattle.rules.specs.Create.{fresh_list, create}
 use Rattle.rules.specs.Demand3.{AcceptedV1, live_in, reading}
 use Rattle.laws.proofs.Check.{Usable, usable_of}
 use Rattle.laws.proofs.FreshList.{length-header_bytes, unsealed}
-use Rattle.laws.proofs.Ready.{Ready, ready_by, used_of, total_of}
+use Rattle.laws.proofs.Ready.{Ready, ready_by}
 use Rattle.laws.proofs.Change.{Settled, settle}
-use Rattle.laws.proofs.Clean.{Clean, behind-zeros, clean_sealed}
 use Rattle.demand3.proofs.InPlace.{passed}
 
 -- what holds of a new list
@@ -30,7 +28,6 @@ pub record Created (bytes : List ℕ) (base : ℕ) : Type 0 where
   pub empty : entries_of bytes ≡ []
   pub unread : reading bytes ≡ []
   pub checksum : get_or bytes checksum_at 0 ≡ fresh_checksum bytes
-  pub clean : clean bytes ≡ true
 
 -- it is ready, with no entry
 fresh_ready : (base len : ℕ) (has : Bool) → Usable base len → header_size < len → Ready (unsealed len has) base []
@@ -63,14 +60,6 @@ created a base has value bytes h =
     let d : end ≡ done value bytes = k₂.1 in
     let b : fresh_list len has ≡ bytes = cc in
     let c : List ℕ = unsealed len has in
-    let long : header_size < len = leb-false len header_size k₂.0 in
-    let r : Ready c base [] = fresh_ready base len has (usable_of base len k₁.0) long in
-    let s : Settled c base [] (seal c) = settle c base [] r in
-    let l : length c ≡ header_size + (len - header_size) = rw (length-append, length-header_bytes, length-replicate) in
-    let total : total_of c ≤ length c = r.header.sizes.total in
-    let used : used_of c ≡ header_size = sym r.row in
-    let h : List ℕ = header_bytes (fresh_header (down8 len) has) in
-    let lh : length h ≡ header_size = length-header_bytes (fresh_header (down8 len) has) in
-    let swept : Clean c [] = record { rows = tt; tail = λ i x y. behind-zeros h (len - header_size) i (omega arith) (omega arith) } in
+    let s : Settled c base [] (seal c) = settle c base [] (fresh_ready base len has (usable_of base len k₁.0) (leb-false len header_size k₂.0)) in
     subst (λ (l : List ℕ). Created l base) b
-    (record { again = s.again; empty = s.walked; unread = s.live; checksum = s.checksum; clean = clean_sealed c base [] r s swept })
+    (record { again = s.again; empty = s.walked; unread = s.live; checksum = s.checksum })

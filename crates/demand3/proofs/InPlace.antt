@@ -6,26 +6,21 @@ use mathlib.Core.Bool.{Bool, true, false, cond}
 use mathlib.Core.List.{List, ◌∷◌}
 use lib.ListN.{length, get_or}
 use Rattle.rules.specs.declared.Entry.{Entry}
-use Rattle.rules.specs.declared.Facts.{Facts}
 use Rattle.rules.specs.declared.Refusal.{Refusal}
 use Rattle.rules.specs.declared.Checked.{Checked}
 use Rattle.rules.specs.declared.Checked.TheVariants.{Accepted, Refused}
 use Rattle.rules.specs.Header.{header_of, header_size, current_version}
 use Rattle.rules.specs.Edition.{Edition, current}
-use Rattle.rules.specs.Entries.{entries_of}
 use Rattle.rules.specs.Checksum.{seal}
-use Rattle.rules.specs.Leftovers.{clean}
-use Rattle.rules.specs.Check.{checks_of}
+use Rattle.rules.specs.Check.{checks_of, admit}
 use Rattle.rules.specs.Outcome.{Outcome, refused, done, after_admission}
-use Rattle.rules.specs.Edit.{Edit, act, clean_only, admission, run, in_place, destination}
+use Rattle.rules.specs.Edit.{Edit, in_place, destination}
 use Rattle.rules.specs.Demand3.{AcceptedV1, Holds, Live, reading, changed, bytes_from, header_stretches, stretches, named, KeepsAddresses}
-use Rattle.laws.proofs.Check.{Sound, sound, accepts, facts_of}
-use Rattle.laws.proofs.Admission.{admission-accepted, admission-clean}
+use Rattle.laws.proofs.Check.{Sound, sound, accepts}
 use Rattle.laws.proofs.Differs.{outside}
 use Rattle.laws.proofs.Seal.{seal-length}
-use Rattle.laws.proofs.Ready.{accepted, ready_of}
+use Rattle.laws.proofs.Ready.{ready_of}
 use Rattle.laws.proofs.Change.{Put, put_seal, Changed, Settled, settle}
-use Rattle.laws.proofs.Clean.{Clean, clean_of, clean_sealed}
 
 -- an edit that is done passed each of its own checks
 pub passed : (b : Bool) (r : Refusal) (x : Outcome) (value : ℕ) (bytes : List ℕ) → cond b (refused r) x ≡ done value bytes
@@ -34,45 +29,24 @@ passed true r x value bytes h = absurd (let z : ◌≡◌ {A = ℕ} 0 1 = cc in 
 passed false r x value bytes h = (refl, h)
 
 -- an edit or a conversion that is done was admitted: its list is accepted by its edition's rules and of version 1
-pub admitted-done : (ed : Edition) (a : List ℕ) (base : ℕ) (k : Checked) (x : Outcome) (value : ℕ) (bytes : List ℕ)
+pub admitted_done : (ed : Edition) (a : List ℕ) (base : ℕ) (k : Checked) (x : Outcome) (value : ℕ) (bytes : List ℕ)
     → checks_of ed true a base ≡ k → after_admission k x ≡ done value bytes
     → Sound ed a base × ((header_of a).version ≡ current_version) × (x ≡ done value bytes)
-admitted-done ed a base (Accepted f) x value bytes h q = let s = sound ed true a base f h in (s.0, s.1 refl, q)
-admitted-done ed a base (Refused r) x value bytes h q = absurd (let z : ◌≡◌ {A = ℕ} 0 1 = cc in omega arith)
+admitted_done ed a base (Accepted f) x value bytes h q = let s = sound ed true a base f h in (s.0, s.1 refl, q)
+admitted_done ed a base (Refused r) x value bytes h q = absurd (let z : ◌≡◌ {A = ℕ} 0 1 = cc in omega arith)
 
--- an edit that is done: its list is accepted and of version 1, and clean where the edit asks for that
-pub record Ran (e : Edit) (a : List ℕ) (base value : ℕ) (bytes : List ℕ) : Type 0 where
-  pub listed : AcceptedV1 a base
-  pub clean : clean_only e ≡ true → Clean a (entries_of a)
-  pub acted : act e a base ≡ done value bytes
-
-pub ran : (e : Edit) (a : List ℕ) (base value : ℕ) (bytes : List ℕ) → run e a base ≡ done value bytes → Ran e a base value bytes
-ran e a base value bytes h = go (admission e a base) refl h
-  where
-    go : (k : Checked) → admission e a base ≡ k → after_admission k (act e a base) ≡ done value bytes → Ran e a base value bytes
-    go (Accepted f) p q =
-        let m = admission-accepted e a base f p in
-        let s = sound current true a base f m.0 in
-        record { listed = accepted a base s.0 (s.1 refl); clean = λ o. clean_of a (m.1 o); acted = q }
-    go (Refused r) p q = absurd (let z : ◌≡◌ {A = ℕ} 0 1 = cc in omega arith)
-
--- a list that is accepted and of version 1, and clean where the edit asks for that, is admitted
-pub admits : (e : Edit) (a : List ℕ) (base : ℕ) → AcceptedV1 a base → (clean_only e ≡ true → clean a ≡ true)
-    → (f : Facts) × (admission e a base ≡ Accepted f)
-admits e a base h c =
+-- a list that is accepted and of version 1 is admitted to every edit
+pub admits : (a : List ℕ) (base : ℕ) → AcceptedV1 a base → (x : Outcome) → after_admission (admit a base) x ≡ x
+admits a base h x =
     let s : Sound current a base = (sound current false a base h.facts h.accepted).0 in
-    (facts_of (header_of a) s.row, admission-clean e a base _ (accepts current true a base s (λ e. (ready_of a base h).version)) c)
-
--- and what it comes to is its act
-pub runs : (e : Edit) (a : List ℕ) (base : ℕ) → AcceptedV1 a base → (clean_only e ≡ true → clean a ≡ true) → run e a base ≡ act e a base
-runs e a base h c = rw (admits e a base h c).1
+    rw (accepts current true a base s (λ e. (ready_of a base h).version))
 
 -- an edit in place that gives c, which is sealed
 pub sealed_holds : (e : Edit) (a : List ℕ) (base value : ℕ) {c : List ℕ} {es : List Entry} {xs : List Live} (bytes : List ℕ)
     → destination e ≡ in_place → seal c ≡ bytes → length c ≡ length a
     → ((i : ℕ) → named (stretches e a (seal c)) i ≡ false → get_or (seal c) i 0 ≡ get_or a i 0)
-    → Changed a c base es xs → Clean c es → xs ≡ changed e a (reading a) → KeepsAddresses e a base (seal c) base → Holds e a base value bytes
-sealed_holds e a base value {c} {es} bytes d sealed size others k zeros live addresses =
+    → Changed a c base es xs → xs ≡ changed e a (reading a) → KeepsAddresses e a base (seal c) base → Holds e a base value bytes
+sealed_holds e a base value {c} {es} bytes d sealed size others k live addresses =
     let q : Settled c base es (seal c) = settle c base es k.ready in
     subst (λ (l : List ℕ). Holds e a base value l) sealed
     (record {
@@ -84,7 +58,6 @@ sealed_holds e a base value {c} {es} bytes d sealed size others k zeros live add
             live = q.live ∙ k.live ∙ live;
             others = λ i l h. others i h;
             addresses = addresses;
-            clean = clean_sealed c base es k.ready q zeros;
           });
       size = rw d (seal-length c ∙ size);
     })
@@ -92,7 +65,7 @@ sealed_holds e a base value {c} {es} bytes d sealed size others k zeros live add
 -- an edit that puts the bytes new into a, which gives c, and seals it
 pub in_place_holds : (e : Edit) (a : List ℕ) (base value : ℕ) {c new : List ℕ} {p : ℕ} {es : List Entry} {xs : List Live} (bytes : List ℕ)
     → destination e ≡ in_place → seal c ≡ bytes → stretches e a (seal c) ≡ bytes_from p (length new) ∷ header_stretches
-    → header_size ≤ p → Put a c p new → Changed a c base es xs → Clean c es → xs ≡ changed e a (reading a) → KeepsAddresses e a base (seal c) base
+    → header_size ≤ p → Put a c p new → Changed a c base es xs → xs ≡ changed e a (reading a) → KeepsAddresses e a base (seal c) base
     → Holds e a base value bytes
 in_place_holds e a base value {c} {new} {p} bytes d sealed s low t =
     sealed_holds e a base value bytes d sealed t.size

@@ -25,14 +25,13 @@ use Rattle.laws.proofs.Passed.{target_reach}
 use Rattle.laws.proofs.Check.{Usable}
 use Rattle.laws.proofs.Power.{power_positive, power_eights, eights_same}
 use Rattle.laws.proofs.NewBase.{new_base-least, new_base-mod, addresses-later}
-use Rattle.laws.proofs.Row.{Same, later-none}
+use Rattle.laws.proofs.Row.{later-none}
 use Rattle.laws.proofs.Live.{read_same}
 use Rattle.laws.proofs.Differs.{Outside, outside, number_differs, length_number, seal_differs}
 use Rattle.laws.proofs.Seal.{seal-length}
 use Rattle.laws.proofs.Target.{length_target, sealed_target}
-use Rattle.laws.proofs.Ready.{Ready, ready_of, ready_by, header-size, ready_low, ready_top, used_of, total_of}
+use Rattle.laws.proofs.Ready.{Ready, ready_of, ready_by, header-size, ready_low, ready_top, used_of}
 use Rattle.laws.proofs.Change.{Changed, Settled, settle}
-use Rattle.laws.proofs.Clean.{Clean, swept_same, behind-zeros, clean_sealed}
 use Rattle.demand3.proofs.InPlace.{passed}
 
 -- the used bytes with the new total
@@ -101,13 +100,13 @@ module _ (a : List ℕ) (base : ℕ) (es : List Entry) (r : Ready a base es) (ro
       }
 
 -- the list moved by some bytes into the target
-module _ (a : List ℕ) (base : ℕ) (target : List ℕ) (target_base by : ℕ) (accepted : AcceptedV1 a base) (zeros : Clean a (entries_of a))
-    (shifted : (target_base + by) % 2 ^ (header_of a).alignment ≡ base % 2 ^ (header_of a).alignment)
+module _ (a : List ℕ) (base : ℕ) (target : List ℕ) (target_base by : ℕ) (accepted : AcceptedV1 a base)
+    (same : (target_base + by) % 2 ^ (header_of a).alignment ≡ base % 2 ^ (header_of a).alignment)
     (reach : target_base + length target ≤ max_address) (short : length target ≤ max_length) (fits : by + used_of a ≤ length target) where
   -- the new base is a multiple of 8, as the old one is
   base8 : Ready a base (entries_of a) → (target_base + by) % 8 ≡ 0
   base8 r =
-      eights_same (target_base + by) base _ (power_eights (header_of a).alignment r.header.sizes.least) shifted ∙ r.header.usable.base8
+      eights_same (target_base + by) base _ (power_eights (header_of a).alignment r.header.sizes.least) same ∙ r.header.usable.base8
 
   -- the result of the relocation
   moved_holds : Holds (to_relocate target target_base) a base by (target_bytes a by (length target))
@@ -126,14 +125,6 @@ module _ (a : List ℕ) (base : ℕ) (target : List ℕ) (target_base by : ℕ) 
       let k : Changed a c (target_base + by) es (live_in a es) = carried a base es r room z (target_base + by) (omega arith) usable in
       let t : Settled c (target_base + by) es (seal c) = settle c (target_base + by) es k.ready in
       let used : used_of c ≡ used_of a = carry_field a base es r room z 8 4 (omega arith) in
-      let total : total_of c ≤ length c = k.ready.header.sizes.total in
-      let lc : length c ≡ length d + length z = length-append d z in
-      let same : Same a c 24 (used_of a) = λ i x y. sym (carry_byte a base es r room z i y (omega arith)) in
-      let swept : Clean c es =
-      record {
-        rows = swept_same a c 24 (used_of a) es r.row same zeros.rows;
-        tail = λ i x y. behind-zeros d (length target - by - length d) i (omega arith) (omega arith);
-      } in
       record {
         result = rw (sealed_target (length target) by d (omega (arith, ready_low a base es r)) (omega arith))
             (record {
@@ -145,17 +136,16 @@ module _ (a : List ℕ) (base : ℕ) (target : List ℕ) (target_base by : ℕ) 
                   let q = outside (bytes_from checksum_at 1 ∷ bytes_from total_at 4 ∷ []) i h in
                   seal_differs c i (q.0, tt) ∙ carry_byte a base es r room z i l q.1;
               addresses = rw t.walked
-                  (rw later-none at (addresses-later (2 ^ (header_of a).alignment) base (target_base + by) 0 es (rw add-zero shifted)));
-              clean = clean_sealed c (target_base + by) es k.ready t swept;
+                  (rw later-none at (addresses-later (2 ^ (header_of a).alignment) base (target_base + by) 0 es (rw add-zero same)));
             });
         size = length_target (length target) by (seal d) (omega arith);
       }
 
 -- Demand 3 for relocate
 pub relocate_holds : (a : List ℕ) (base : ℕ) (target : List ℕ) (target_base value : ℕ) (bytes : List ℕ) → AcceptedV1 a base
-    → Clean a (entries_of a) → relocate a base target target_base ≡ done value bytes → Holds (to_relocate target target_base) a base value bytes
+    → relocate a base target target_base ≡ done value bytes → Holds (to_relocate target target_base) a base value bytes
 unfolding relocate move_to shift
-relocate_holds a base target target_base value bytes accepted zeros h =
+relocate_holds a base target target_base value bytes accepted h =
     let m : ℕ = 2 ^ (header_of a).alignment in
     let n : ℕ = new_base m base target_base in
     let by : ℕ = n - target_base in
@@ -172,4 +162,4 @@ relocate_holds a base target target_base value bytes accepted zeros h =
     let same : (target_base + by) % m ≡ base % m = rw e (new_base-mod m base target_base (power_positive (header_of a).alignment)) in
     subst (λ (l : List ℕ). Holds (to_relocate target target_base) a base value l) b
     (subst (λ (x : ℕ). Holds (to_relocate target target_base) a base x (target_bytes a by len)) v
-    (moved_holds a base target target_base by accepted zeros same t.0 t.1 (ltb-false _ _ k₂.0)))
+    (moved_holds a base target target_base by accepted same t.0 t.1 (ltb-false _ _ k₂.0)))

@@ -2,7 +2,6 @@
 use mathlib.Core.Path.{◌≡◌, refl, sym, ap, ◌∙◌}
 use Prim.Native.Nat.{ℕ, ◌+◌, ◌-◌}
 use native.Mathlib.Omega.{arith}
-use mathlib.Core.Bool.{true}
 use mathlib.Core.List.{List, ◌∷◌, map}
 use lib.ListN.{length, get_or}
 use Rattle.wire.specs.Bytes.{le_bytes}
@@ -10,32 +9,31 @@ use Rattle.wire.proofs.Splice.{splice-nil}
 use Rattle.wire.proofs.Field.{length-le_bytes}
 use Rattle.rules.specs.declared.Entry.{Entry}
 use Rattle.rules.specs.Header.{header_size, with_used}
+use Rattle.rules.specs.Edition.{current}
 use Rattle.rules.specs.Entries.{data_offset, entries_of, live_ones}
 use Rattle.rules.specs.Checksum.{seal}
-use Rattle.rules.specs.Leftovers.{clean}
+use Rattle.rules.specs.Check.{admit}
 use Rattle.rules.specs.Outcome.{done}
 use Rattle.rules.specs.Tidy.{tidied, write_voids, end_of, tidy_used, tidy_bytes, tidy}
-use Rattle.rules.specs.Edit.{to_tidy}
+use Rattle.rules.specs.Edit.{to_tidy, act}
 use Rattle.rules.specs.Demand3.{AcceptedV1, Holds, bytes_from, reading, void_stretches}
 use Rattle.rules.specs.TidyTwice.{TidyOnce, TidyTwice}
 use Rattle.laws.proofs.Row.{Same}
 use Rattle.laws.proofs.Differs.{Outside, outside, seal_differs}
 use Rattle.laws.proofs.Seal.{seal-length, seal-used, seal-again}
-use Rattle.laws.proofs.Ready.{ready_of, used_of}
+use Rattle.laws.proofs.Ready.{ready_of, accepted, used_of}
 use Rattle.laws.proofs.Change.{Settled, settle}
 use Rattle.laws.proofs.Tidy.{tidied-tidied, live-tidied, tidied-is-tidy}
 use Rattle.laws.proofs.Tiles.{voids_same, splice_written, wrote_again}
-use Rattle.laws.proofs.Clean.{Clean, clean_sealed}
 use Rattle.laws.proofs.Cleared.{Cleared, cleared}
-use Rattle.demand3.proofs.InPlace.{ran, runs, sealed_holds}
+use Rattle.demand3.proofs.InPlace.{admitted_done, admits, sealed_holds}
 
 -- ---- demand 3
 
 -- Demand 3 for tidy
-pub tidy_holds : (a : List ℕ) (base value : ℕ) (bytes : List ℕ) → AcceptedV1 a base → Clean a (entries_of a) → tidy a ≡ done value bytes
-    → Holds to_tidy a base value bytes
+pub tidy_holds : (a : List ℕ) (base value : ℕ) (bytes : List ℕ) → AcceptedV1 a base → tidy a ≡ done value bytes → Holds to_tidy a base value bytes
 unfolding tidy reading
-tidy_holds a base value bytes h zeros is =
+tidy_holds a base value bytes h is =
     let es : List Entry = entries_of a in
     let c : List ℕ = tidy_bytes a in
     let k : Cleared a c base (tidy_used a) es = cleared a base (ready_of a base h) in
@@ -43,7 +41,7 @@ tidy_holds a base value bytes h zeros is =
     let sealed : seal c ≡ bytes = cc in
     let others : (i : ℕ) → Outside (bytes_from 4 1 ∷ bytes_from 8 4 ∷ void_stretches es) i → get_or (seal c) i 0 ≡ get_or a i 0 =
     λ i o. seal_differs c i (o.0, tt) ∙ k.differs i o.1 in
-    sealed_holds to_tidy a base value bytes refl sealed k.size (λ i n. others i (outside _ i n)) k.changed (k.clean zeros) refl
+    sealed_holds to_tidy a base value bytes refl sealed k.size (λ i n. others i (outside _ i n)) k.changed refl
     (ap (λ (l : List Entry). map (λ (e : Entry). base + data_offset e) l) (ap live_ones q.walked ∙ live-tidied es))
 
 -- ---- tidying twice
@@ -70,8 +68,8 @@ unfolding tidy
 standing_tidy b u ts s = rw (standing_bytes b u ts s, s.walked, s.end, s.checksum)
 
 -- of a list that was tidied all that stands there
-once : (a : List ℕ) (base : ℕ) → AcceptedV1 a base → Clean a (entries_of a) → TidyOnce base (tidy_used a) (seal (tidy_bytes a))
-once a base h zeros =
+once : (a : List ℕ) (base : ℕ) → AcceptedV1 a base → TidyOnce base (tidy_used a) (seal (tidy_bytes a))
+once a base h =
     let es : List Entry = entries_of a in
     let c : List ℕ = tidy_bytes a in
     let b : List ℕ = seal c in
@@ -92,19 +90,14 @@ once a base h zeros =
           (λ i l. seal_differs c (8 + i) (λ z. omega arith, tt) ∙ k.number i l);
       checksum = seal-again b q.checksum;
     } in
-    let swept : clean b ≡ true = clean_sealed c base (tidied es) k.changed.ready q (k.clean zeros) in
-    record {
-      twice = runs to_tidy b base q.again (λ o. swept) ∙ standing_tidy b u (tidied es) s;
-      tidy = rw q.walked (tidied-is-tidy es);
-    }
+    record { twice = admits b base q.again (tidy b) ∙ standing_tidy b u (tidied es) s; tidy = rw q.walked (tidied-is-tidy es) }
 
 -- The theorem: of any list at any base whose tidying is not refused, tidying the result again answers the same and leaves the same bytes;
 -- in the result no two voids are neighbours, and the last entry, if there is one, is live.
 pub tidy-twice : TidyTwice
 unfolding tidy
 tidy-twice a base value bytes h =
-    let k = ran to_tidy a base value bytes h in
-    let is : done (tidy_used a) (seal (tidy_bytes a)) ≡ done value bytes = k.acted in
+    let k = admitted_done current a base (admit a base) (act to_tidy a base) value bytes refl h in
     let v : tidy_used a ≡ value = cc in
     let b : seal (tidy_bytes a) ≡ bytes = cc in
-    rw (← v, ← b) (once a base k.listed (k.clean refl))
+    rw (← v, ← b) (once a base (accepted a base k.0 k.1))

@@ -24,15 +24,14 @@ use Rattle.laws.proofs.Live.{live-append, Read, Occurs, occurs}
 use Rattle.laws.proofs.Ready.{Ready, ready_of}
 use Rattle.laws.proofs.Written.{written_left, written_void, entry_of}
 use Rattle.laws.proofs.Change.{Put, put_splice, Placed, placed, change_within}
-use Rattle.laws.proofs.Clean.{Clean, swept_void, clean-within}
 use Rattle.demand3.proofs.InPlace.{passed, in_place_holds}
 
 -- the entry e, which is occurrence n of the tag, is written over by a void
 voided : (a : List ℕ) (base tag n value : ℕ) (bytes : List ℕ) (xs : List Entry) (e : Entry) (ys : List Entry) → Ready a base (xs ++ (e ∷ ys))
-    → Clean a (xs ++ (e ∷ ys)) → occurrence tag n (entries_of a) ≡ some e → take_out tag n (live_in a (entries_of a)) ≡ live_in a (xs ++ ys)
+    → occurrence tag n (entries_of a) ≡ some e → take_out tag n (live_in a (entries_of a)) ≡ live_in a (xs ++ ys)
     → seal (splice a e.at (void_bytes (align8 e.data_size))) ≡ bytes → Holds (to_void tag n) a base value bytes
 unfolding reading void_bytes
-voided a base tag n value bytes xs e ys r zeros found out is =
+voided a base tag n value bytes xs e ys r found out is =
     let p : Placed a xs e ys = placed a base xs e ys r in
     let m : ℕ = align8 e.data_size in
     let new : List ℕ = void_bytes m in
@@ -46,15 +45,13 @@ voided a base tag n value bytes xs e ys r zeros found out is =
     written_void c e.at m (e.at + span e) (omega arith) (omega arith) (omega (arith, r.header.usable.short))
     (written_left c e.at (entry_header 0 m) (replicate m 0) t.written) in
     in_place_holds (to_void tag n) a base value bytes refl is (rw (found, l, w)) p.low t
-    (change_within (e.at + span e) xs ys r t (omega arith) p.front p.back v)
-    (clean-within (entry_of e.at 0 m ∷ []) t p zeros (omega arith) (omega arith) (swept_void c e.at m (omega arith) t.written))
-    (sym (out ∙ live-append a xs ys)) tt
+    (change_within (e.at + span e) xs ys r t (omega arith) p.front p.back v) (sym (out ∙ live-append a xs ys)) tt
 
 -- Demand 3 for void
-pub void_holds : (a : List ℕ) (base tag n value : ℕ) (bytes : List ℕ) → AcceptedV1 a base → Clean a (entries_of a) → void a tag n ≡ done value bytes
+pub void_holds : (a : List ℕ) (base tag n value : ℕ) (bytes : List ℕ) → AcceptedV1 a base → void a tag n ≡ done value bytes
     → Holds (to_void tag n) a base value bytes
 unfolding void
-void_holds a base tag n value bytes accepted zeros h =
+void_holds a base tag n value bytes accepted h =
     let k = passed (refuses_tag tag) Tag (void_at a (occurrence tag n (entries_of a))) value bytes h in
     go (occurrence tag n (entries_of a)) refl (tag_range tag k.0).0 k.1
   where
@@ -64,4 +61,4 @@ void_holds a base tag n value bytes accepted zeros h =
         let o : Occurs tag n (entries_of a) e = occurs tag n (entries_of a) e (λ z. omega arith) f in
         let b : seal (splice a e.at (void_bytes (align8 e.data_size))) ≡ bytes = cc in
         voided a base tag n value bytes o.parts.before e o.parts.behind
-        (subst (Ready a base) o.parts.whole (ready_of a base accepted)) (subst (Clean a) o.parts.whole zeros) f (o.taken a) b
+        (subst (Ready a base) o.parts.whole (ready_of a base accepted)) f (o.taken a) b

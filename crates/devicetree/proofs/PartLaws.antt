@@ -43,8 +43,8 @@ module _ {s : List ℕ} where
   pub padding-long : {at : ℕ} → length s < (at + 3) / 4 * 4 → Decides (Padding s at) Nowhere
   padding-long h = refuted (λ m x. let i = x.inside in let e = x.next in omega arith)
 
-  pub padding-dirty : {at n : ℕ} → n ≡ (at + 3) / 4 * 4 → (Zeros s at n → ⊥) → Decides (Padding s at) Nowhere
-  padding-dirty {at} e f = refuted (λ m x. f (subst (λ (i : ℕ). Zeros s at i) (x.next ∙ sym e) x.zeros))
+  pub padding_dirty : {at n : ℕ} → n ≡ (at + 3) / 4 * 4 → (Zeros s at n → ⊥) → Decides (Padding s at) Nowhere
+  padding_dirty {at} e f = refuted (λ m x. f (subst (λ (i : ℕ). Zeros s at i) (x.next ∙ sym e) x.zeros))
 
   -- ---- a node's name
 

@@ -10,7 +10,7 @@ use Rattle.rules.specs.Entries.{entries_of, occurrence}
 use Rattle.rules.specs.Checksum.{seal}
 use Rattle.rules.specs.Outcome.{Outcome, refused, done}
 use Rattle.rules.specs.Add.{entry_bytes, room, remainder, taken_void, add_at}
-use Rattle.rules.specs.Edit.{Edit, to_add, to_add_aligned, to_void, to_relocate, to_tidy, to_scrub, run}
+use Rattle.rules.specs.Edit.{Edit, to_add, to_add_aligned, to_void, to_relocate, to_tidy, run}
 use Rattle.laws.proofs.Patch.{edited}
 use Rattle.plan.specs.declared.Plan.{Plan}
 use Rattle.plan.specs.declared.Planned.{Planned}
@@ -114,7 +114,7 @@ abbrev pub planned_place : List ℕ → ℕ → List ℕ → Bool → Planned
 planned_place a tag content use_voids =
     planned_by a content (add_place a tag content use_voids) (add_plan a tag (length content) (taken_void use_voids (length content) a))
 
--- ---- of each edit that is planned; relocate, tidy and scrub are not, and nothing is asked of them here
+-- ---- of each edit that is planned; relocate and tidy are not, and nothing is asked of them here
 
 -- its data
 abbrev pub content_of : Edit → List ℕ
@@ -123,7 +123,6 @@ content_of (to_add_aligned tag content exponent) = content
 content_of (to_void tag n) = []
 content_of (to_relocate target target_base) = []
 content_of to_tidy = []
-content_of to_scrub = []
 
 -- its plan, the checksum still 0
 abbrev pub bare_for : Edit → List ℕ → ℕ → Plan
@@ -132,7 +131,6 @@ bare_for (to_add_aligned tag content exponent) a base = add_aligned_plan a base 
 bare_for (to_void tag n) a base = void_plan a (occurrence tag n (entries_of a))
 bare_for (to_relocate target target_base) a base = void_plan a none
 bare_for to_tidy a base = void_plan a none
-bare_for to_scrub a base = void_plan a none
 
 -- and with it
 abbrev pub plan_for : Edit → List ℕ → ℕ → Plan

@@ -13,6 +13,7 @@ ghost use Rattle.edit.specs.Decide.{planned_at_end, planned_place, planned_for};
 
 use plan::{Plan, Planned, sum};
 use rules::{Entry, Header, Refusal};
+use walk::check;
 use walk::check::Surveyed;
 use walk::wanted::{Sought, Wanted};
 
@@ -119,13 +120,14 @@ fn decide_place(
     Planned::Go(sum::with_checksum(in_void(h, e, tag, data.len()), area, h, data))
 }
 
-// Add: checks 1 to 8 and 15, then 9, 10 and 14. The walk of the check remembers the first void that fits.
+// Add: checks 1 to 8, then 9, 10 and 14. The walk of the check remembers the first void that fits.
 pub fn decide_add(area: &[u8], base: u64, tag: u32, data: &[u8], use_voids: bool) -> Planned
     ensures decides { Decides area.now «data».now (run (to_add tag «data».now use_voids) area.now base) result }
     ensures value { result ≡ planned_for (to_add tag «data».now use_voids) area.now base }
 {
     let n = data.len();
-    let surveyed = clean::admit(
+    let surveyed = check::survey(
+        true,
         area,
         base,
         Wanted {
@@ -177,12 +179,12 @@ fn larger(alignment: u8, exponent: u32) -> u8
     alignment
 }
 
-// Add aligned: checks 1 to 8 and 15, then 9, 10, 11 and 14.
+// Add aligned: checks 1 to 8, then 9, 10, 11 and 14.
 pub fn decide_add_aligned(area: &[u8], base: u64, tag: u32, data: &[u8], exponent: u32) -> Planned
     ensures decides { Decides area.now «data».now (run (to_add_aligned tag «data».now exponent) area.now base) result }
     ensures value { result ≡ planned_for (to_add_aligned tag «data».now exponent) area.now base }
 {
-    let surveyed = clean::admit(area, base, Wanted::nothing());
+    let surveyed = check::survey(true, area, base, Wanted::nothing());
     let Surveyed::Accepted(_, h, _) = surveyed else {
         return Planned::Refused(surveyed.refusal());
     };
@@ -206,12 +208,12 @@ pub fn decide_add_aligned(area: &[u8], base: u64, tag: u32, data: &[u8], exponen
     )
 }
 
-// Void: checks 1 to 8 and 15, then 9 and 13. The walk of the check remembers the entry.
+// Void: checks 1 to 8, then 9 and 13. The walk of the check remembers the entry.
 pub fn decide_void(area: &[u8], base: u64, tag: u32, n: u64) -> Planned
     ensures decides { Decides area.now [] (run (to_void tag n) area.now base) result }
     ensures value { result ≡ planned_for (to_void tag n) area.now base }
 {
-    let surveyed = clean::admit(area, base, Wanted { tag, least: 0, n });
+    let surveyed = check::survey(true, area, base, Wanted { tag, least: 0, n });
     let Surveyed::Accepted(_, h, found) = surveyed else {
         return Planned::Refused(surveyed.refusal());
     };

@@ -11,15 +11,17 @@ use lib.Dec.{eqb}
 use borrow.Author.Tests.{ne_eqb, eqb-true}
 use Rattle.rules.specs.declared.Entry.{Entry}
 use Rattle.rules.specs.declared.Refusal.TheVariants.{Tag}
+use Rattle.rules.specs.Edition.{current}
 use Rattle.rules.specs.Entries.{is_void, entries_of, occurrence}
 use Rattle.rules.specs.Refusals.{refuses_tag}
+use Rattle.rules.specs.Check.{admit}
 use Rattle.rules.specs.Outcome.{done}
 use Rattle.rules.specs.Add.{taken_void}
 use Rattle.rules.specs.Void.{void_at, void}
-use Rattle.rules.specs.Edit.{Edit, to_add, to_add_aligned, to_void, run, in_place, destination}
+use Rattle.rules.specs.Edit.{Edit, to_add, to_add_aligned, to_void, act, run, in_place, destination}
 use Rattle.rules.specs.Demand3.{Live, live_at, live_in, reading, put_in, take_out, position, changed}
 use Rattle.laws.proofs.Passed.{tag_range}
-use Rattle.demand3.proofs.InPlace.{passed, ran}
+use Rattle.demand3.proofs.InPlace.{passed, admitted_done}
 use Rattle.demand3.proofs.Demand3.{demand3}
 use Rattle.demand3.proofs.Answered.{done_listed}
 use Rattle.journal.specs.Journal.{Word, memory, store_all, changed_words, apply_stores}
@@ -104,5 +106,6 @@ some_word_aligned j a new base value tag content exponent =
 pub some_word_void : (j a new : List ℕ) (base value tag n : ℕ) → Journals j a new → run (to_void tag n) a base ≡ done value new
     → 1 ≤ length (changed_words a new)
 some_word_void j a new base value tag n r h =
-    let l = void_shorter a tag n value new (ran (to_void tag n) a base value new h).acted in
+    let k = admitted_done current a base (admit a base) (act (to_void tag n) a base) value new refl h in
+    let l = void_shorter a tag n value new k.2 in
     some_word (to_void tag n) j a new base value refl (λ s. omega (arith, l, s)) r h

@@ -75,29 +75,30 @@ module _ (version : ℕ) (a : List ℕ) (used at : ℕ) where
 
 -- ---- the check
 
--- a refusal with a lower number is not x
-lower : (x r : Refusal) → number_of r < number_of x → some r ≡ some x → ⊥
-lower x r l e = let q : r ≡ x = cc in let n = ap number_of q in omega arith
+-- a refusal of a lower number is not 8
+lower : (at : ℕ) (r : Refusal) → number_of r < 8 → some r ≡ some (refusal.Entry at) → ⊥
+lower at r l e = let q : r ≡ refusal.Entry at = cc in let n = ap number_of q in omega arith
 
--- checks 1 to 6 give no higher number
-header_lower : (ed : Edition) (editing : Bool) (base len : ℕ) (h : Header) (x : Refusal) → 6 < number_of x
-    → header_refusal ed editing base len h ≡ some x → ⊥
+-- checks 1 to 6 refuse no entry
+header_entry : (ed : Edition) (editing : Bool) (base len : ℕ) (h : Header) (at : ℕ)
+    → header_refusal ed editing base len h ≡ some (refusal.Entry at) → ⊥
 unfolding header_refusal fields_refusal
-header_lower ed editing base len h x l k =
-    let p₁ = past (refuses_area base len) _ _ _ (lower x refusal.Area (omega arith)) k in
-    let p₂ = past (refuses_short ed len) _ _ _ (lower x refusal.Short (omega arith)) p₁.1 in
-    let p₃ = past (refuses_signature ed h) _ _ _ (lower x refusal.Signature (omega arith)) p₂.1 in
-    let p₄ = past (refuses_version h) _ _ _ (lower x refusal.Version (omega arith)) p₃.1 in
-    let p₅ = past (refuses_readonly editing h) _ _ _ (lower x refusal.Readonly (omega arith)) p₄.1 in
-    let p₆ = past (refuses_sizes ed h len) _ _ _ (lower x refusal.Sizes (omega arith)) p₅.1 in
+header_entry ed editing base len h at k =
+    let p₁ = past (refuses_area base len) _ _ _ (lower at refusal.Area (omega arith)) k in
+    let p₂ = past (refuses_short ed len) _ _ _ (lower at refusal.Short (omega arith)) p₁.1 in
+    let p₃ = past (refuses_signature ed h) _ _ _ (lower at refusal.Signature (omega arith)) p₂.1 in
+    let p₄ = past (refuses_version h) _ _ _ (lower at refusal.Version (omega arith)) p₃.1 in
+    let p₅ = past (refuses_readonly editing h) _ _ _ (lower at refusal.Readonly (omega arith)) p₄.1 in
+    let p₆ = past (refuses_sizes ed h len) _ _ _ (lower at refusal.Sizes (omega arith)) p₅.1 in
     let q = p₆.1 in
     let z : ◌≡◌ {A = ℕ} 0 1 = cc in
     omega arith
 
--- so one comes behind them
-behind-header : (o : Option Refusal) (c : Checked) (x : Refusal) → (o ≡ some x → ⊥) → unless o c ≡ Refused x → (o ≡ none) × (c ≡ Refused x)
-behind-header (some r) c x n k = absurd (let q : r ≡ x = cc in n (ap some q))
-behind-header none c x n k = (refl, k)
+-- so refusal 8 comes behind them
+behind-header : (o : Option Refusal) (x : Checked) (at : ℕ) → (o ≡ some (refusal.Entry at) → ⊥) → unless o x ≡ Refused (refusal.Entry at)
+    → (o ≡ none) × (x ≡ Refused (refusal.Entry at))
+behind-header (some r) x at n k = absurd (let q : r ≡ refusal.Entry at = cc in n (ap some q))
+behind-header none x at n k = (refl, k)
 
 -- and is that of a broken walk
 refused-walk : (h : Header) (w : Walk) (at : ℕ) → walked h w ≡ Refused (refusal.Entry at) → w ≡ broken at
@@ -110,7 +111,7 @@ module _ (ed : Edition) (editing : Bool) (a : List ℕ) (base at : ℕ) where
   unfolding checks_of walk
   bad_at k =
       let h : Header = header_of a in
-      let p = behind-header (header_refusal ed editing base (length a) h) _ _ (header_lower ed editing base (length a) h _ (omega arith)) k in
+      let p = behind-header (header_refusal ed editing base (length a) h) _ at (header_entry ed editing base (length a) h at) k in
       let q = past (refuses_checksum ed a) _ _ _ (λ e. (let z : ◌≡◌ {A = ℕ} 0 1 = cc in omega arith)) p.1 in
       let z = (header-sound ed editing base (length a) h p.0).0.sizes in
       let w = refused-walk h (walk a) at q.1 in
@@ -137,16 +138,3 @@ module _ (ed : Edition) (editing : Bool) (a : List ℕ) (base at : ℕ) where
   pub says_where : SaysWhere ed editing a base at
   unfolding checks_of walk
   says_where = record { only = bad_at; always = λ b. simp (b.header, b.checksum, first-broken _ _ _ _ b.first); within = within }
-
--- 15 is no answer of a walk, nor of the check
-no-dirty-walk : (h : Header) (w : Walk) → walked h w ≡ Refused refusal.Dirty → ⊥
-no-dirty-walk h (entries es) k = (let z : ◌≡◌ {A = ℕ} 0 1 = cc in omega arith)
-no-dirty-walk h (broken at) k = (let z : ◌≡◌ {A = ℕ} 0 1 = cc in omega arith)
-
-pub not_dirty : (ed : Edition) (editing : Bool) (a : List ℕ) (base : ℕ) → checks_of ed editing a base ≡ Refused refusal.Dirty → ⊥
-unfolding checks_of
-not_dirty ed editing a base k =
-    let h : Header = header_of a in
-    let p = behind-header (header_refusal ed editing base (length a) h) _ _ (header_lower ed editing base (length a) h _ (omega arith)) k in
-    let q = past (refuses_checksum ed a) _ _ _ (λ e. (let z : ◌≡◌ {A = ℕ} 0 1 = cc in omega arith)) p.1 in
-    no-dirty-walk h (walk a) q.1

@@ -182,9 +182,9 @@ abbrev SoundReading : Float → Type 0
 SoundReading x = (c : Certificate) × (refuses_contents c ≡ false) × (reading_of c ≡ x)
 
 -- what a call reads is that
-read-sound : (a : List ℕ) (base serial test : ℕ) (x : Float) (p : Bool) → certify a base serial test ≡ Read x p → SoundReading x
+read_sound : (a : List ℕ) (base serial test : ℕ) (x : Float) (p : Bool) → certify a base serial test ≡ Read x p → SoundReading x
 unfolding certify judged
-read-sound a base serial test x p h = go (check a base) h
+read_sound a base serial test x p h = go (check a base) h
   where
     one : (c : Certificate) → certified serial test c ≡ Read x p → SoundReading x
     one c q =
@@ -209,7 +209,7 @@ read-sound a base serial test x p h = go (check a base) h
 pub never_negative_zero : (a : List ℕ) (base serial test : ℕ) (x : Float) (p : Bool) → certify a base serial test ≡ Read x p
     → x ≡ minus_zero → ⊥
 never_negative_zero a base serial test x p h k =
-    let s = read-sound a base serial test x p h in
+    let s = read_sound a base serial test x p h in
     reading_plain s.0 s.1 (s.2 ∙ k)
 
 -- what is neither infinite nor no number is a number
@@ -224,7 +224,7 @@ pub reading_bits : (a : List ℕ) (base serial test : ℕ) (x : Float) (p : Bool
     → (float (to_bits binary64 x) ≡ x) × ((n : ℕ) → n < 2 ^ 64 → float n ≡ x → n ≡ to_bits binary64 x)
 unfolding refuses_contents gauge_reading
 reading_bits a base serial test x p h =
-    let s = read-sound a base serial test x p h in
+    let s = read_sound a base serial test x p h in
     let fitting : T (fits binary64 x) = subst (λ (y : Float). T (fits binary64 y)) s.2 (add-fits binary64 _ (float s.0.offset)) in
     let number : T (not (is_nan x)) = finite_number x (λ q. true≢false (rw (s.2, q, or_true) at s.1)) in
     (of_bits-to_bits binary64 x fitting, λ n l q. sym (rw q at (to_bits-of_bits binary64 n l (rw q number))))

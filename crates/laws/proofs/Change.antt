@@ -16,7 +16,7 @@ use Rattle.rules.specs.Entries.{span, entries_of}
 use Rattle.rules.specs.Checksum.{fresh_checksum, seal}
 use Rattle.rules.specs.Demand3.{AcceptedV1, Live, live_in, reading, Stretch, bytes_from, header_stretches}
 use Rattle.laws.proofs.Row.{Regular, Row, row_le, row_split, place_of, Same}
-use Rattle.laws.proofs.Live.{Read, read_none, read-append, read_same}
+use Rattle.laws.proofs.Live.{Read, read_none, read_append, read_same}
 use Rattle.laws.proofs.Differs.{Outside, Differs, differs_field, splice_differs, number_differs, length_number, seal_differs}
 use Rattle.laws.proofs.Seal.{seal-length, seal-field, seal_fresh, seal_holds}
 use Rattle.laws.proofs.Ready.{Ready, used_of, total_of, header-size, ready_top, ready_accepted, ready_by}
@@ -120,7 +120,7 @@ change {a} {c} {new} {base} {p} {q} {es} {ns} {ys} xs r t least most fits front 
     let n : length c ≡ length a = t.size in
     let same : Same a c 24 p = λ i x y. sym (t.differs i (omega arith)) in
     changed_by (bytes_from p (length new) ∷ header_stretches) r n t.differs (λ i x h. (omega arith, h)) least most fits
-    (read-append (read_same a c 24 p xs front (omega arith) (omega arith) same) (read-append row behind))
+    (read_append (read_same a c 24 p xs front (omega arith) (omega arith) same) (read_append row behind))
 
 -- the entries of a behind the new bytes stand there as before
 pub behind_same : {a c new : List ℕ} {p : ℕ} (q : ℕ) (ys : List Entry) → Put a c p new → used_of c ≡ used_of a → used_of a ≤ length a

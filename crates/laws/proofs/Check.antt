@@ -50,7 +50,7 @@ use Rattle.laws.proofs.Walk.{header-least, neither, All, Inside, walk_inside, oc
 -- ---- tests
 
 -- both of two tests hold
-pub both_true : (x y : Bool) → (x && y) ≡ true → (x ≡ true) × (y ≡ true)
+both_true : (x y : Bool) → (x && y) ≡ true → (x ≡ true) × (y ≡ true)
 both_true true y h = (refl, h)
 both_true false y h = absurd (let z : ◌≡◌ {A = ℕ} 0 1 = cc in omega arith)
 

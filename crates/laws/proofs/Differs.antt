@@ -3,7 +3,7 @@ use mathlib.Core.Path.{◌≡◌, refl}
 use Prim.Native.Nat.{ℕ, ◌+◌, ◌≤◌, ◌<◌}
 use native.Mathlib.Omega.{arith}
 use mathlib.Core.Bool.{Bool, true, false}
-use mathlib.Core.List.{List, [], ◌∷◌, ◌++◌}
+use mathlib.Core.List.{List, [], ◌∷◌}
 use lib.ListN.{length, get_or}
 use lib.Seq.{get_or-set_other}
 use lib.Dec.{leb}
@@ -28,11 +28,6 @@ outside [] i h = tt
 outside (s ∷ ss) i h =
     let p = neither (within s i) (named ss i) h in
     (λ l. ltb-false i s.to (rw (le-leb s.from i l) at p.0), outside ss i p.1)
-
--- one outside some stretches and outside others is outside all of them
-pub outside_append : (ss ts : List Stretch) (i : ℕ) → Outside ss i → Outside ts i → Outside (ss ++ ts) i
-outside_append [] ts i o k = k
-outside_append (s ∷ ss) ts i o k = (o.0, outside_append ss ts i o.1 k)
 
 -- c has the bytes of a outside the stretches
 abbrev pub Differs : List ℕ → List ℕ → List Stretch → Type 0

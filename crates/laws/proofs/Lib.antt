@@ -2,7 +2,6 @@
 pub mod Walk
 pub mod Check
 pub mod BadEntry
-pub mod Admission
 pub mod PassedUp
 pub mod Passed
 pub mod Row
@@ -17,15 +16,13 @@ pub mod Differs
 pub mod Seal
 pub mod Ready
 pub mod Target
+pub mod Grown
 pub mod Written
 pub mod Change
 pub mod Patch
 pub mod Moved
 pub mod Tidy
 pub mod Tiles
-pub mod Zeroed
-pub mod Clean
 pub mod Cleared
-pub mod Grown
 pub mod OneCertificate
 pub mod Certificate

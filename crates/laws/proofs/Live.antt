@@ -64,9 +64,9 @@ unfolding live_in
 read_none c p q h = record { row = h; live = refl }
 
 -- some behind others
-pub read-append : {c : List ℕ} {p q u : ℕ} {es fs : List Entry} {xs ys : List Live} → Read c p q es xs → Read c q u fs ys
+pub read_append : {c : List ℕ} {p q u : ℕ} {es fs : List Entry} {xs ys : List Live} → Read c p q es xs → Read c q u fs ys
     → Read c p u (es ++ fs) (xs ++ ys)
-read-append {c} {p} {q} {u} {es} {fs} f g =
+read_append {c} {p} {q} {u} {es} {fs} f g =
     record { row = row_append c p q u es fs f.row g.row; live = live-append c es fs ∙ rw (f.live, g.live) }
 
 -- the same bytes further on are read alike

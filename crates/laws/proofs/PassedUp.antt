@@ -1,6 +1,6 @@
 -- Request 8: each call's refusal 8 is its check's, with the same place, and no other answer has a place.
 use mathlib.Core.Path.{◌≡◌, refl, sym, ap, ◌∙◌}
-use Prim.Native.Nat.{ℕ, ◌+◌, ◌≤◌}
+use Prim.Native.Nat.{ℕ, ◌+◌}
 use native.Mathlib.Omega.{arith}
 use mathlib.Core.Bool.{Bool, false, not, cond}
 use mathlib.Core.List.{List, [], ◌∷◌}
@@ -32,8 +32,7 @@ use Rattle.rules.specs.AddAligned.{aligned_bytes, add_aligned_at_end, add_aligne
 use Rattle.rules.specs.Void.{void_at, void}
 use Rattle.rules.specs.Relocate.{shift, move_to, relocate}
 use Rattle.rules.specs.Tidy.{tidy}
-use Rattle.rules.specs.Scrub.{scrub}
-use Rattle.rules.specs.Edit.{Edit, to_add, to_add_aligned, to_void, to_relocate, to_tidy, to_scrub, act}
+use Rattle.rules.specs.Edit.{Edit, to_add, to_add_aligned, to_void, to_relocate, to_tidy, act}
 use Rattle.rules.specs.Demand3.{live_at}
 use Rattle.rules.specs.Edition09.{edition09, growth, grown_shift, convert_to, convert}
 use Rattle.rules.specs.Certificate.{
@@ -49,7 +48,6 @@ use Rattle.rules.specs.Certificate.{
 }
 use Rattle.rules.specs.BadEntry.{EightFrom, PassedUp, PassedUp09, OnlyPassedUp, OnlyPassedUp09, ZeroElsewhere}
 use Rattle.laws.proofs.Check.{past}
-use Rattle.laws.proofs.Admission.{admission-refused, admission_before}
 
 -- ---- the check's 8 is each call's
 
@@ -60,7 +58,7 @@ passed_up a base at =
       checked = λ k. ap check_answer k;
       found = λ k tag n. simp k;
       certified = λ k serial test. simp k;
-      edited = λ k e. simp (admission-refused e a base (refusal.Entry at) k);
+      edited = λ k e. simp k;
     }
 
 pub passed_up09 : (a : List ℕ) (base at : ℕ) → PassedUp09 a base at
@@ -94,7 +92,6 @@ placed refusal.Align = other (λ n. omega arith) refl
 placed refusal.Target = other (λ n. omega arith) refl
 placed refusal.None = other (λ n. omega arith) refl
 placed refusal.Room = other (λ n. omega arith) refl
-placed refusal.Dirty = other (λ n. omega arith) refl
 
 -- one whose number is 8 has a place
 eight : (r : Refusal) → number_of r ≡ 8 → r ≡ refusal.Entry (place_of r)
@@ -171,6 +168,11 @@ module _ (at : ℕ) where
   from_checks (Accepted f) x n k = absurd (n k)
   from_checks (Refused r) x n k = let q : r ≡ refusal.Entry at = cc in ap Refused q
 
+  from_admission : (c : Checked) (x : Outcome) → (x ≡ refused (refusal.Entry at) → ⊥) → after_admission c x ≡ refused (refusal.Entry at)
+      → c ≡ Refused (refusal.Entry at)
+  from_admission (Accepted f) x n k = absurd (n k)
+  from_admission (Refused r) x n k = let q : r ≡ refusal.Entry at = cc in ap Refused q
+
   -- no refusal of find's own is 8
   find_own : (tag : ℕ) (o : Option Entry) → cond (refuses_tag tag) (found.Refused refusal.Tag) (found_at o) ≡ found.Refused (refusal.Entry at) → ⊥
   find_own tag o k = go o (past (refuses_tag tag) _ _ _ (λ e. (let z : ◌≡◌ {A = ℕ} 0 1 = cc in omega arith)) k).1
@@ -193,64 +195,52 @@ module _ (at : ℕ) where
       omega arith
   certificate_own a serial test (e ∷ f ∷ es) k = (let z : ◌≡◌ {A = ℕ} 0 1 = cc in omega arith)
 
--- a refusal that an act does not come to is its admission's
-pub from-admission : (r : Refusal) (c : Checked) (x : Outcome) → (x ≡ refused r → ⊥) → after_admission c x ≡ refused r → c ≡ Refused r
-from-admission r (Accepted f) x n k = absurd (n k)
-from-admission r (Refused s) x n k = let q : s ≡ r = cc in ap Refused q
+  -- a refusal of another number, and what is done, are not it
+  another : (r : Refusal) → (number_of r ≡ 8 → ⊥) → refused r ≡ refused (refusal.Entry at) → ⊥
+  another r n k = let q : r ≡ refusal.Entry at = cc in n (ap number_of q)
 
--- an edit's own refusals, and the conversion's, are 9 to 14: none of them is x, which has another number
-module _ (x : Refusal) (apart : (n : ℕ) → 9 ≤ n → n ≤ 14 → n ≡ number_of x → ⊥) where
-  -- a refusal with one of these numbers, and what is done, are not it
-  another : (r : Refusal) → 9 ≤ number_of r → number_of r ≤ 14 → refused r ≡ refused x → ⊥
-  another r l h k = let q : r ≡ x = cc in apart (number_of r) l h (ap number_of q)
-
-  not_done : (value : ℕ) (bytes : List ℕ) → done value bytes ≡ refused x → ⊥
+  not_done : (value : ℕ) (bytes : List ℕ) → done value bytes ≡ refused (refusal.Entry at) → ⊥
   not_done value bytes k = (let z : ◌≡◌ {A = ℕ} 0 1 = cc in omega arith)
 
   -- an act that has one test left, for ROOM
-  room_own : (b : Bool) (value : ℕ) (bytes : List ℕ) → cond b (refused refusal.Room) (done value bytes) ≡ refused x → ⊥
-  room_own b value bytes k = not_done value bytes (past b _ _ _ (another refusal.Room (omega arith) (omega arith)) k).1
+  room_own : (b : Bool) (value : ℕ) (bytes : List ℕ) → cond b (refused refusal.Room) (done value bytes) ≡ refused (refusal.Entry at) → ⊥
+  room_own b value bytes k = not_done value bytes (past b _ _ _ (another refusal.Room (λ n. omega arith)) k).1
 
   -- none of an edit's
-  add_own : (a : List ℕ) (tag : ℕ) (content : List ℕ) (o : Option Entry) → add_at a tag content o ≡ refused x → ⊥
+  add_own : (a : List ℕ) (tag : ℕ) (content : List ℕ) (o : Option Entry) → add_at a tag content o ≡ refused (refusal.Entry at) → ⊥
   unfolding add_in_void add_at_end
   add_own a tag content (some e) k = not_done _ _ k
   add_own a tag content none k = room_own (ltb (room a) (entry_span (length content))) _ _ k
 
-  void_own : (a : List ℕ) (o : Option Entry) → void_at a o ≡ refused x → ⊥
+  void_own : (a : List ℕ) (o : Option Entry) → void_at a o ≡ refused (refusal.Entry at) → ⊥
   void_own a (some e) k = not_done _ _ k
-  void_own a none k = another refusal.None (omega arith) (omega arith) k
+  void_own a none k = another refusal.None (λ n. omega arith) k
 
-  pub act_own : (e : Edit) (a : List ℕ) (base : ℕ) → act e a base ≡ refused x → ⊥
-  unfolding add add_aligned add_aligned_at_end void relocate move_to tidy scrub
+  act_own : (e : Edit) (a : List ℕ) (base : ℕ) → act e a base ≡ refused (refusal.Entry at) → ⊥
+  unfolding add add_aligned add_aligned_at_end void relocate move_to tidy
   act_own (to_add tag content use_voids) a base k =
-      let p = past (refuses_tag_add tag) _ _ _ (another refusal.Tag (omega arith) (omega arith)) k in
+      let p = past (refuses_tag_add tag) _ _ _ (another refusal.Tag (λ n. omega arith)) k in
       add_own a tag content (taken_void use_voids (length content) a)
-      (past (refuses_shape tag (length content)) _ _ _ (another refusal.Shape (omega arith) (omega arith)) p.1).1
+      (past (refuses_shape tag (length content)) _ _ _ (another refusal.Shape (λ n. omega arith)) p.1).1
   act_own (to_add_aligned tag content exponent) a base k =
-      let p = past (refuses_tag_add tag) _ _ _ (another refusal.Tag (omega arith) (omega arith)) k in
-      let q = past (refuses_shape tag (length content)) _ _ _ (another refusal.Shape (omega arith) (omega arith)) p.1 in
+      let p = past (refuses_tag_add tag) _ _ _ (another refusal.Tag (λ n. omega arith)) k in
+      let q = past (refuses_shape tag (length content)) _ _ _ (another refusal.Shape (λ n. omega arith)) p.1 in
       room_own (ltb (room a) (length (aligned_bytes a base tag content exponent))) _ _
-      (past (refuses_align exponent) _ _ _ (another refusal.Align (omega arith) (omega arith)) q.1).1
+      (past (refuses_align exponent) _ _ _ (another refusal.Align (λ n. omega arith)) q.1).1
   act_own (to_void tag n) a base k =
-      void_own a (occurrence tag n (entries_of a)) (past (refuses_tag tag) _ _ _ (another refusal.Tag (omega arith) (omega arith)) k).1
+      void_own a (occurrence tag n (entries_of a)) (past (refuses_tag tag) _ _ _ (another refusal.Tag (λ m. omega arith)) k).1
   act_own (to_relocate target target_base) a base k =
       room_own (ltb (length target) (shift a base target_base + (header_of a).used_size)) _ _
-      (past (refuses_target target_base (length target)) _ _ _ (another refusal.Target (omega arith) (omega arith)) k).1
+      (past (refuses_target target_base (length target)) _ _ _ (another refusal.Target (λ n. omega arith)) k).1
   act_own to_tidy a base k = not_done _ _ k
-  act_own to_scrub a base k = not_done _ _ k
 
   -- none of the conversion's
-  pub convert_own : (a : List ℕ) (by target_base len : ℕ)
-      → cond (refuses_target target_base len) (refused refusal.Target) (convert_to a by len) ≡ refused x → ⊥
+  convert_own : (a : List ℕ) (by target_base len : ℕ)
+      → cond (refuses_target target_base len) (refused refusal.Target) (convert_to a by len) ≡ refused (refusal.Entry at) → ⊥
   unfolding convert_to
   convert_own a by target_base len k =
       room_own (ltb len (by + ((header_of a).used_size + growth))) _ _
-      (past (refuses_target target_base len) _ _ _ (another refusal.Target (omega arith) (omega arith)) k).1
-
--- as 8 is
-entry_apart : (n : ℕ) → 9 ≤ n → n ≤ 14 → n ≡ 8 → ⊥
-entry_apart n l h e = omega arith
+      (past (refuses_target target_base len) _ _ _ (another refusal.Target (λ n. omega arith)) k).1
 
 find-from : (ed : Edition) (a : List ℕ) (base tag n : ℕ)
     → EightFrom (checks_of ed false a base) (find_answer (find_of ed a base tag n)).number (find_answer (find_of ed a base tag n)).at
@@ -264,7 +254,7 @@ only_passed_up a base =
       checked = checked_eight _;
       found = find-from current a base;
       certified = λ serial test e. from_checks _ _ _ (certificate_own _ a serial test (tagged certificate_tag (entries_of a))) (certified_eight _ e);
-      edited = λ x e. admission_before x a base _ (λ d. omega (arith, ap number_of d)) (from-admission _ _ _ (act_own _ entry_apart x a base) (done_eight _ e));
+      edited = λ x e. from_admission _ _ _ (act_own _ x a base) (done_eight _ e);
     }
 
 pub only_passed_up09 : (a : List ℕ) (base : ℕ) → OnlyPassedUp09 a base
@@ -273,6 +263,5 @@ only_passed_up09 a base =
     record {
       checked = checked_eight _;
       found = find-from edition09 a base;
-      converted = λ target target_base e.
-          from-admission _ _ _ (convert_own _ entry_apart a (grown_shift a base target_base) target_base (length target)) (done_eight _ e);
+      converted = λ target target_base e. from_admission _ _ _ (convert_own _ a (grown_shift a base target_base) target_base (length target)) (done_eight _ e);
     }

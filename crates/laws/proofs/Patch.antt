@@ -5,7 +5,7 @@ use native.Mathlib.Omega.{arith}
 use mathlib.Core.Bool.{Bool, true, false, cond}
 use mathlib.Core.List.{List, [], ◌∷◌}
 use lib.ListN.{length, take, drop, get_or, set}
-use lib.Seq.{length-take-le, get_or-take}
+use lib.Seq.{length-take-le}
 use lib.Dec.{eqb}
 use lib.Bits.{bit_xor, xor_comm, xor_zero_l}
 use borrow.Author.Tests.{eqb-true}
@@ -14,7 +14,7 @@ use Rattle.wire.proofs.Range.{Bytes}
 use Rattle.wire.proofs.Xor.{xor_assoc, xor-splice}
 use Rattle.wire.proofs.Splice.{take-splice-within, drop-splice, length-splice, splice_comm}
 use Rattle.wire.proofs.Field.{bytes_take, bytes-splice, bytes-le_bytes, length-le_bytes, field_lt, field-take, field-splice_same}
-use Rattle.rules.specs.Header.{header_of, has_checksum, checksum_at, with_alignment, with_used}
+use Rattle.rules.specs.Header.{header_of, has_checksum, with_alignment, with_used}
 use Rattle.rules.specs.Checksum.{checksum_holds, without, fresh_checksum, seal}
 use Rattle.rules.specs.Add.{append}
 use Rattle.rules.specs.AddAligned.{append_aligned}
@@ -22,7 +22,6 @@ use Rattle.rules.specs.Demand3.{Stretch, bytes_from}
 use Rattle.laws.proofs.Lists.{splice_own, length-splice-least, set-splice, take-splice-used}
 use Rattle.laws.proofs.Xor.{xor-without, xor_byte, xor_number}
 use Rattle.laws.proofs.Differs.{Outside, Differs, differs_field, splice_differs, number_differs, length_number}
-use Rattle.laws.proofs.Seal.{fresh}
 use Rattle.laws.proofs.Ready.{used_of}
 
 -- an area with a new alignment, used_size and stretch
@@ -214,21 +213,3 @@ written a alignment used at new c h k =
     ∙ ap (λ (x : List ℕ). splice x at new)
     (set-splice g 8 (le_bytes 4 used) 4 c (omega arith) (omega arith)
     ∙ ap (λ (x : List ℕ). splice x 8 (le_bytes 4 used)) (set-splice a 7 (le_bytes 1 alignment) 4 c (omega arith) (omega arith)))
-
--- ---- a list as it stands
-
--- where the checksum rule holds, byte 4 is the checksum worked out afresh
-pub holds_fresh : (a : List ℕ) → checksum_holds a ≡ true → 24 ≤ used_of a → used_of a ≤ length a → get_or a checksum_at 0 ≡ fresh_checksum a
-unfolding checksum_holds header_of field
-holds_fresh a h low top = go (eqb (field a 16 4 % 2) 1) refl
-  where
-    go : (b : Bool) → eqb (field a 16 4 % 2) 1 ≡ b → get_or a 4 0 ≡ fresh_checksum a
-    go true s =
-        let u : ℕ = used_of a in
-        let l : length (take u a) ≡ u = length-take-le u a top in
-        let z : xor (take u a) ≡ 0 = holds_xor a h s in
-        sym (fresh a ∙ rw (s, xor-without (take u a) 4 (omega arith), z, get_or-take u a 4 0 (omega arith), xor_zero_l (get_or a 4 0)))
-    go false s =
-        let z : field a 4 1 ≡ 0 = eqb-true _ _ (rw s at h) in
-        let e : get_or a 4 0 ≡ 0 = omega arith in
-        e ∙ sym (fresh a ∙ rw s)

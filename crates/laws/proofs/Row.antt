@@ -115,7 +115,7 @@ later d e = record { at = d + e.at; tag_id = e.tag_id; hdr_size = e.hdr_size; da
 
 module _ (d : ℕ) (a b : List ℕ) where
   -- an entry's fields are those of its eight header bytes
-  pub entry_agree : (p : ℕ) → Agree d a b p (p + 8) → later d (entry_at a p) ≡ entry_at b (d + p)
+  entry_agree : (p : ℕ) → Agree d a b p (p + 8) → later d (entry_at a p) ≡ entry_at b (d + p)
   unfolding entry_at
   entry_agree p h =
       let tag : field a p 3 ≡ field b (d + p) 3 = rw (add-zero p, add-zero (d + p)) at (number 0 3 (omega arith)) in

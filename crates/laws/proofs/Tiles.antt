@@ -17,7 +17,7 @@ use Rattle.laws.proofs.Walk.{All}
 use Rattle.laws.proofs.Row.{absurd_bool, Row, Same, row_le, place_of}
 use Rattle.laws.proofs.Lists.{part-is}
 use Rattle.laws.proofs.EntryBytes.{length-void_bytes}
-use Rattle.laws.proofs.Live.{Read, read_none, read-append, read_same}
+use Rattle.laws.proofs.Live.{Read, read_none, read_append, read_same}
 use Rattle.laws.proofs.Differs.{Outside, Differs, splice_differs}
 use Rattle.laws.proofs.Written.{Written, written_left, written_void, entry_of}
 
@@ -38,7 +38,7 @@ module _ {a : List ℕ} {m : ℕ} where
   tiles_le {p} (live {q = q} {t = e} v r t) = omega (arith, row_le a p q (e ∷ []) r.row, tiles_le t)
 
   -- no void of theirs covers a place before them
-  pub tiles_before : {p : ℕ} {ts : List Entry} {xs : List Live} → Tiles a m p ts xs → (i : ℕ) → i < p → Outside (void_stretches ts) i
+  tiles_before : {p : ℕ} {ts : List Entry} {xs : List Live} → Tiles a m p ts xs → (i : ℕ) → i < p → Outside (void_stretches ts) i
   unfolding void_stretches
   tiles_before (ends e) i l = tt
   tiles_before (void h k t) i l = (omega arith, tiles_before t i (omega arith))
@@ -77,7 +77,7 @@ wrote {a₀} {m} {p} low a h l₀ l s (live {q = q} {t = e} {ts = ts} v r t) =
     let same : Same a₀ c p q = λ i x y. s i x (omega arith) ∙ sym (k.differs i (tiles_before t i y)) in
     rw v (record {
       size = n;
-      read = read-append (rw r.live at (read_same a₀ c p q (e ∷ []) r.row (omega arith) (omega arith) same)) k.read;
+      read = read_append (rw r.live at (read_same a₀ c p q (e ∷ []) r.row (omega arith) (omega arith) same)) k.read;
       voids = (λ w. absurd_bool (sym w ∙ v), k.voids);
       differs = λ i o. k.differs i (rw v at o);
     })
@@ -93,7 +93,7 @@ wrote {m = m} {p = p} low a h l₀ l s (void {n = n} {ts = ts} h8 hn t) =
     let w : Written c p new = λ i x. k.differs (p + i) (tiles_before t (p + i) (omega arith)) ∙ get_or-splice_in a p new (omega arith) i x in
     record {
       size = lc ∙ lb;
-      read = read-append (written_void c p n (p + (8 + n)) refl h8 hn (written_left c p (entry_header 0 n) (replicate n 0) w)) k.read;
+      read = read_append (written_void c p n (p + (8 + n)) refl h8 hn (written_left c p (entry_header 0 n) (replicate n 0) w)) k.read;
       voids = (λ v. record { behind = h; inside = omega arith; written = w }, k.voids);
       differs = λ i o. k.differs i o.1
           ∙ splice_differs a p new (omega arith) i ((λ x. let y : p + span (entry_of p 0 n) ≤ i = o.0 x in omega arith), tt);

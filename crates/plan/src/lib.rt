@@ -1,6 +1,4 @@
-// What an edit will write, decided before any byte changes, and the writing of it; and the checksum worked out afresh, for the calls that write as
-// they go. Knows nothing of how an edit decides.
-pub mod fresh;
+// What an edit will write, decided before any byte changes, and the writing of it. Knows nothing of how an edit decides.
 pub mod sum;
 pub mod write;
 

@@ -7,6 +7,7 @@ ghost use Rattle.laws.proofs.Check.{Admitted};
 
 use destination::Place;
 use rules::{Done, Header};
+use walk::check;
 use walk::check::Surveyed;
 use walk::wanted::Wanted;
 
@@ -27,7 +28,7 @@ pub fn relocate(area: &[u8], base: u64, target: &mut [u8], target_base: u64) -> 
     ensures value { result ≡ answer (run (to_relocate target.old target_base) area.now base) }
     ensures target_after { target.new ≡ bytes_after target.old (run (to_relocate target.old target_base) area.now base) }
 {
-    let surveyed = clean::admit(area, base, Wanted::nothing());
+    let surveyed = check::survey(true, area, base, Wanted::nothing());
     let Surveyed::Accepted(_, h, _) = surveyed else {
         return Done::Refused(surveyed.refusal());
     };

@@ -6,7 +6,7 @@ use Prim.Native.Nat.{ℕ}
 use mathlib.Core.Bool.{true, false, cond}
 use mathlib.Core.List.{List, [], ◌∷◌, ◌++◌, map}
 use lib.ListN.{take, replicate}
-use Rattle.wire.specs.Bytes.{field, le_bytes, xor, splice, all_zero}
+use Rattle.wire.specs.Bytes.{field, le_bytes, xor, splice}
 use Rattle.rules.specs.declared.Refusal.TheVariants.{Area}
 use Rattle.rules.specs.declared.CheckAnswer.{CheckAnswer}
 use Rattle.rules.specs.declared.DoneAnswer.{DoneAnswer}
@@ -23,7 +23,6 @@ use Rattle.rules.specs.Entries.{
   occurrence,
 }
 use Rattle.rules.specs.Checksum.{checksum_holds, fresh_checksum, seal}
-use Rattle.rules.specs.Leftovers.{zero_in, clean}
 use Rattle.rules.specs.Tags.{tag_table, breaks_table}
 use Rattle.rules.specs.Refusals.{number_of, refuses_area}
 use Rattle.rules.specs.Check.{fields_refusal, header_refusal, checks_of, check, check_answer}
@@ -323,7 +322,7 @@ table =
 -- the claim
 pub examples : map (λ (r : Example). r.got) table ≡ map (λ (r : Example). r.want) table
 unfolding field le_bytes xor splice header_of header_bytes fresh_header entry_at entry_header walk_in walk_from walk entries_of
-    live_count void_count occurrence checksum_holds fresh_checksum seal all_zero zero_in clean tag_table breaks_table fields_refusal header_refusal checks_of
+    live_count void_count occurrence checksum_holds fresh_checksum seal tag_table breaks_table fields_refusal header_refusal checks_of
     fresh_list create entry_bytes first_fit void_behind add_in_void append add_at_end add
     void_bytes padding_void aligned_bytes append_aligned add_aligned_at_end add_aligned void
     new_base shift moved in_target target_bytes move_to relocate

@@ -1,6 +1,5 @@
 pub mod Bools
 pub mod Examples
 pub mod TidyExamples
-pub mod CleanExamples
 pub mod CertificateExamples
 pub mod BadEntryExamples

@@ -1,11 +1,11 @@
--- Document 01, "When a call is turned away" and "Check": checks 1 to 8 in the order of their numbers, and what a check answers; request 10's 15.
+-- Document 01, "When a call is turned away" and "Check": checks 1 to 8 in the order of their numbers, and what a check answers.
 use Rattle.std.specs.Prelude.{ℕ, Bool, true, false, cond, List, length}
 use Rattle.std.proofs.Math.Option.{Option, none, some}
 use Rattle.rules.specs.declared.Header.{Header}
 use Rattle.rules.specs.declared.Checked.{Checked}
 use Rattle.rules.specs.declared.Checked.TheVariants.{Accepted, Refused}
 use Rattle.rules.specs.declared.Refusal.{Refusal}
-use Rattle.rules.specs.declared.Refusal.TheVariants.{Area, Short, Signature, Version, Readonly, Sizes, Checksum, Entry, Dirty}
+use Rattle.rules.specs.declared.Refusal.TheVariants.{Area, Short, Signature, Version, Readonly, Sizes, Checksum, Entry}
 use Rattle.rules.specs.declared.CheckAnswer.{CheckAnswer}
 use Rattle.rules.specs.Header.{header_of}
 use Rattle.rules.specs.Edition.{Edition, current}
@@ -20,7 +20,6 @@ use Rattle.rules.specs.Refusals.{
   refuses_readonly,
   refuses_sizes,
   refuses_checksum,
-  refuses_dirty,
 }
 
 -- 8, and the answer: "version, used, total, alignment, and the numbers of live and void entries"
@@ -68,16 +67,6 @@ check a base = checks_of current false a base
 -- the admission of a current list to an edit
 abbrev pub admit : List ℕ → ℕ → Checked
 admit a base = checks_of current true a base
-
--- 15, as added by request 10, which amends the order of the numbers for it: "checked right after ENTRY and so before 9"; "check and find still
--- read it"
-abbrev pub unless_dirty : List ℕ → Checked → Checked
-unless_dirty a (Accepted f) = cond (refuses_dirty a) (Refused Dirty) (Accepted f)
-unless_dirty a (Refused r) = Refused r
-
--- and the admission of a clean one
-abbrev pub admit_clean : List ℕ → ℕ → Checked
-admit_clean a base = unless_dirty a (admit a base)
 
 -- the answer in numbers: "A refusal answers its number with every other number in the answer 0"; as amended by request 8, "for refusal 8
 -- only", but for the place

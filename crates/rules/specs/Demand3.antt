@@ -1,5 +1,5 @@
 -- Document 01, "Demand 3's words": what holds of every edit that is not refused.
-use Rattle.std.specs.Prelude.{◌≡◌, ℕ, ◌+◌, ◌-◌, ◌%◌, ◌^◌, ◌<◌, Bool, true, false, not, ◌&&◌, ◌||◌, cond, List, [], ◌∷◌, ◌++◌, map, length, take, drop, get_or, leb, ltb, eqb}
+use Rattle.std.specs.Prelude.{◌≡◌, ℕ, ◌+◌, ◌-◌, ◌%◌, ◌^◌, ◌<◌, Bool, false, not, ◌&&◌, ◌||◌, cond, List, [], ◌∷◌, ◌++◌, map, length, take, drop, get_or, leb, ltb, eqb}
 use Rattle.std.proofs.Math.Option.{Option, none, some}
 use Rattle.rules.specs.declared.Entry.{Entry}
 use Rattle.rules.specs.declared.Facts.{Facts}
@@ -8,8 +8,6 @@ use Rattle.rules.specs.declared.Checked.TheVariants.{Accepted}
 use Rattle.rules.specs.Header.{header_of, current_version, checksum_at, alignment_at, used_at, total_at}
 use Rattle.rules.specs.Entries.{is_void, span, data_offset, entries_of, live_count, occurrence, live_ones}
 use Rattle.rules.specs.Checksum.{fresh_checksum}
-use Rattle.rules.specs.Leftovers.{clean, leftovers}
-pub use Rattle.rules.specs.Leftovers.{Stretch}
 use Rattle.rules.specs.Check.{check}
 use Rattle.rules.specs.Outcome.{done, answer, bytes_after, done_answer}
 use Rattle.rules.specs.Add.{entry_span, taken_void, void_behind}
@@ -20,7 +18,6 @@ use Rattle.rules.specs.Edit.{
   to_void,
   to_relocate,
   to_tidy,
-  to_scrub,
   run,
   Destination,
   in_place,
@@ -71,8 +68,7 @@ abbrev pub position : List ℕ → Option Entry → ℕ
 position a (some e) = live_before e.at (entries_of a)
 position a none = live_count (entries_of a)
 
--- the reading of the given list, changed by the edit; one that names no entry leaves it as it was: a scrub, as request 10 adds, with "no live
--- entry changed"
+-- the reading of the given list, changed by the edit; one that names no entry leaves it as it was
 abbrev pub changed : Edit → List ℕ → List Live → List Live
 changed (to_add tag content use_voids) a xs =
     put_in (position a (taken_void use_voids (length content) a)) (record { tag = tag; content = content }) xs
@@ -80,9 +76,13 @@ changed (to_add_aligned tag content exponent) a xs = put_in (position a none) (r
 changed (to_void tag n) a xs = take_out tag n xs
 changed (to_relocate target target_base) a xs = xs
 changed to_tidy a xs = xs
-changed to_scrub a xs = xs
 
 -- ---- the named bytes
+
+-- the bytes from one place up to another, which is not among them
+pub record Stretch : Type 0 where
+  pub from : ℕ
+  pub to : ℕ
 
 -- n bytes from a place on
 abbrev pub bytes_from : ℕ → ℕ → Stretch
@@ -112,7 +112,7 @@ abbrev pub header_stretches : List Stretch
 header_stretches = bytes_from checksum_at 1 ∷ bytes_from alignment_at 1 ∷ bytes_from used_at 4 ∷ []
 
 -- the named bytes of the edit of the list a that gives the list after; "in a relocation, of the used bytes only 4 and 12 to 15"; in a
--- tidy, as request 3 adds, "the voids' stretches, the checksum and used"; in a scrub, as request 10 adds, "those bytes and the checksum"
+-- tidy, as request 3 adds, "the voids' stretches, the checksum and used"
 abbrev pub stretches : Edit → List ℕ → List ℕ → List Stretch
 stretches (to_add tag content use_voids) a after =
     add_stretch a after (length content) (taken_void use_voids (length content) a) ∷ header_stretches
@@ -120,7 +120,6 @@ stretches (to_add_aligned tag content exponent) a after = old_used_to_new a afte
 stretches (to_void tag n) a after = void_stretch (occurrence tag n (entries_of a)) ∷ header_stretches
 stretches (to_relocate target target_base) a after = bytes_from checksum_at 1 ∷ bytes_from total_at 4 ∷ []
 stretches to_tidy a after = bytes_from checksum_at 1 ∷ bytes_from used_at 4 ∷ void_stretches (entries_of a)
-stretches to_scrub a after = bytes_from checksum_at 1 ∷ leftovers a
 
 -- i is a place of a stretch
 abbrev pub within : Stretch → ℕ → Bool
@@ -146,8 +145,7 @@ addresses_modulo m base a = map (λ (e : Entry). (base + data_offset e) % m) (en
 abbrev pub live_addresses : ℕ → List ℕ → List ℕ
 live_addresses base a = map (λ (e : Entry). base + data_offset e) (live_ones (entries_of a))
 
--- after a relocation each equals the old one modulo 2^alignment; after a tidy, as request 3 adds, "Live entries stay at their offsets"; after a
--- scrub, as request 10 adds, "live entries stay"
+-- after a relocation each equals the old one modulo 2^alignment; after a tidy, as request 3 adds, "Live entries stay at their offsets"
 abbrev pub KeepsAddresses : Edit → List ℕ → ℕ → List ℕ → ℕ → Type 0
 KeepsAddresses (to_add tag content use_voids) a base after new_base = Unit
 KeepsAddresses (to_add_aligned tag content exponent) a base after new_base = Unit
@@ -155,7 +153,6 @@ KeepsAddresses (to_void tag n) a base after new_base = Unit
 KeepsAddresses (to_relocate target target_base) a base after new_base =
     addresses_modulo (2 ^ (header_of a).alignment) new_base after ≡ addresses_modulo (2 ^ (header_of a).alignment) base a
 KeepsAddresses to_tidy a base after new_base = live_addresses new_base after ≡ live_addresses base a
-KeepsAddresses to_scrub a base after new_base = live_addresses new_base after ≡ live_addresses base a
 
 -- ---- the demand
 
@@ -165,8 +162,7 @@ pub record AcceptedV1 (a : List ℕ) (base : ℕ) : Type 0 where
   pub accepted : check a base ≡ Accepted facts
   pub version : facts.version ≡ current_version
 
--- what holds, all at once, of the edit e of the list a at base that gives the list after at new_base; last, as request 10 adds: "Every accepted
--- edit of a clean list gives a clean list", and a scrub gives one of any accepted version 1 list
+-- what holds, all at once, of the edit e of the list a at base that gives the list after at new_base
 pub record Kept (e : Edit) (a : List ℕ) (base : ℕ) (after : List ℕ) (new_base : ℕ) : Type 0 where
   pub again : AcceptedV1 after new_base
   pub checksum : get_or after checksum_at 0 ≡ fresh_checksum after
@@ -174,16 +170,13 @@ pub record Kept (e : Edit) (a : List ℕ) (base : ℕ) (after : List ℕ) (new_b
   pub live : reading after ≡ changed e a (reading a)
   pub others : (i : ℕ) → i < compared (destination e) a → named (stretches e a after) i ≡ false → get_or after i 0 ≡ get_or a i 0
   pub addresses : KeepsAddresses e a base after new_base
-  pub clean : clean after ≡ true
 
 -- and of an edit that answers `value` and leaves `bytes`: as many bytes are lent afterwards as before
 pub record Holds (e : Edit) (a : List ℕ) (base value : ℕ) (bytes : List ℕ) : Type 0 where
   pub result : Kept e a base (result_area (destination e) value bytes) (result_base (destination e) base value)
   pub size : length bytes ≡ length (lent (destination e) a)
 
--- Demand 3: of every edit of every accepted version 1 list, at every base, that is not refused. Request 10 "narrows the third demand to clean
--- lists, but for scrub, which it covers on any accepted version 1 list": of any other list every edit but scrub gives 15 (ScrubOnce); "its other
--- words stand".
+-- Demand 3: of every edit of every accepted version 1 list, at every base, that is not refused
 abbrev pub Demand3 : Type 0
 Demand3 =
     (e : Edit) (a : List ℕ) (base value : ℕ) (bytes : List ℕ)

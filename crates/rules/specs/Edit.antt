@@ -1,24 +1,21 @@
 -- The edits as one: what demand 3 speaks of, and what each edit's statement cites.
-use Rattle.std.specs.Prelude.{ℕ, ◌+◌, Bool, true, false, cond, List, drop}
-use Rattle.rules.specs.declared.Checked.{Checked}
-use Rattle.rules.specs.Check.{admit, admit_clean}
+use Rattle.std.specs.Prelude.{ℕ, ◌+◌, Bool, List, drop}
+use Rattle.rules.specs.Check.{admit}
 use Rattle.rules.specs.Outcome.{Outcome, after_admission}
 use Rattle.rules.specs.Add.{add}
 use Rattle.rules.specs.AddAligned.{add_aligned}
 use Rattle.rules.specs.Void.{void}
 use Rattle.rules.specs.Relocate.{relocate}
 use Rattle.rules.specs.Tidy.{tidy}
-use Rattle.rules.specs.Scrub.{scrub}
 
 -- an edit with what it is given besides the list: tag, data and whether voids may be used; tag, data and exponent; tag and
--- occurrence; the target's bytes and base; for request 3's tidy and request 10's scrub nothing
+-- occurrence; the target's bytes and base; for request 3's tidy nothing
 pub data Edit : Type 0 where
   to_add : ℕ → List ℕ → Bool → Edit
   to_add_aligned : ℕ → List ℕ → ℕ → Edit
   to_void : ℕ → ℕ → Edit
   to_relocate : List ℕ → ℕ → Edit
   to_tidy : Edit
-  to_scrub : Edit
 
 -- what the edit of the list a at base comes to, once the list is admitted
 abbrev pub act : Edit → List ℕ → ℕ → Outcome
@@ -27,26 +24,10 @@ act (to_add_aligned tag content exponent) a base = add_aligned a base tag conten
 act (to_void tag n) a base = void a tag n
 act (to_relocate target target_base) a base = relocate a base target target_base
 act to_tidy a base = tidy a
-act to_scrub a base = scrub a
 
--- whether an edit asks for a clean list, as added by request 10: "Adds, void, relocate and tidy refuse anything else with 15 DIRTY"; scrub is
--- "exempt from 15"
-abbrev pub clean_only : Edit → Bool
-clean_only (to_add tag content use_voids) = true
-clean_only (to_add_aligned tag content exponent) = true
-clean_only (to_void tag n) = true
-clean_only (to_relocate target target_base) = true
-clean_only to_tidy = true
-clean_only to_scrub = false
-
--- the admission to the edit
-abbrev pub admission : Edit → List ℕ → ℕ → Checked
-admission e a base = cond (clean_only e) (admit_clean a base) (admit a base)
-
--- "All other calls make 1 to 8 on the given list before their own"; of request 3's tidy: "Checks 1 to 8 apply, 5 included"; of request 10's
--- scrub: "with checks 1 to 8 (5 included)"
+-- "All other calls make 1 to 8 on the given list before their own"; of request 3's tidy: "Checks 1 to 8 apply, 5 included"
 abbrev pub run : Edit → List ℕ → ℕ → Outcome
-run e a base = after_admission (admission e a base) (act e a base)
+run e a base = after_admission (admit a base) (act e a base)
 
 -- where the result stands: in the area itself, or in a target with its bytes and base
 pub data Destination : Type 0 where
@@ -60,7 +41,6 @@ destination (to_add_aligned tag content exponent) = in_place
 destination (to_void tag n) = in_place
 destination (to_relocate target target_base) = into target target_base
 destination to_tidy = in_place
-destination to_scrub = in_place
 
 -- the bytes lent for writing, as they were
 abbrev pub lent : Destination → List ℕ → List ℕ

@@ -1,6 +1,6 @@
 -- Document 02, request 1, "Benches still on edition 0.9": lists as source 000 has them, their check and find, and the conversion into a
 -- current list with checksums on.
-use Rattle.std.specs.Prelude.{◌≡◌, ℕ, ◌+◌, ◌-◌, ◌%◌, ◌^◌, Bool, true, false, cond, List, ◌++◌, map, length, take, drop, get_or, ltb, eqb}
+use Rattle.std.specs.Prelude.{◌≡◌, ℕ, ◌+◌, ◌-◌, ◌%◌, ◌^◌, Bool, true, false, cond, List, ◌++◌, length, take, drop, get_or, ltb, eqb}
 use Rattle.wire.specs.Bytes.{sum}
 use Rattle.rules.specs.declared.Header.{Header}
 use Rattle.rules.specs.declared.Checked.{Checked}
@@ -10,8 +10,6 @@ use Rattle.rules.specs.declared.DoneAnswer.{DoneAnswer}
 use Rattle.rules.specs.Area.{down8}
 use Rattle.rules.specs.Header.{header_of, header_size, header_bytes, fresh_header, checksum_at}
 use Rattle.rules.specs.Checksum.{without, fresh_checksum, seal}
-use Rattle.rules.specs.Entries.{entries_of}
-use Rattle.rules.specs.Leftovers.{leftover, clean, zeroed}
 use Rattle.rules.specs.Edition.{Edition}
 use Rattle.rules.specs.Refusals.{refuses_target}
 use Rattle.rules.specs.Check.{checks_of}
@@ -54,13 +52,9 @@ admit09 a base = checks_of edition09 true a base
 abbrev pub growth : ℕ
 growth = header_size - edition09.header_size
 
--- the old list with zero in padding and void data, as amended by request 10: "Conversion from 0.9 writes zero there too"
-unfoldable pub scrubbed09 : List ℕ → List ℕ
-scrubbed09 a = zeroed (map leftover (entries_of a)) a
-
--- "Entry bytes are copied as they stand", but for those: bytes 16 to `size` of the old list
+-- "Entry bytes are copied as they stand": bytes 16 to `size` of the old list
 unfoldable pub old_entries : List ℕ → List ℕ
-old_entries a = take ((header_of a).used_size - edition09.header_size) (drop edition09.header_size (scrubbed09 a))
+old_entries a = take ((header_of a).used_size - edition09.header_size) (drop edition09.header_size a)
 
 -- "the header is the one create writes, with the old alignment, used size + 8, and total as relocation sets it", its checksum still 0
 unfoldable pub grown_header : Header → ℕ → Header
@@ -108,14 +102,13 @@ convert a base target target_base =
 -- ---- what holds of a conversion that is not refused
 
 -- of the list after at after_base, converted from a at base: it is an accepted version 1 list with checksums on and a fresh checksum, its
--- fresh reading is the old list's, and "each data address keeps its value modulo the alignment"; as request 10 adds, it is clean
+-- fresh reading is the old list's, and "each data address keeps its value modulo the alignment"
 pub record Converted (a : List ℕ) (base : ℕ) (after : List ℕ) (after_base : ℕ) : Type 0 where
   pub again : AcceptedV1 after after_base
   pub flags : (header_of after).flags ≡ 1
   pub checksum : get_or after checksum_at 0 ≡ fresh_checksum after
   pub live : reading after ≡ reading a
   pub addresses : addresses_modulo (2 ^ (header_of a).alignment) after_base after ≡ addresses_modulo (2 ^ (header_of a).alignment) base a
-  pub clean : clean after ≡ true
 
 -- and of a conversion that answers `value` and leaves `bytes`: as many bytes are lent afterwards as before
 pub record ConvertHolds (a : List ℕ) (base : ℕ) (target : List ℕ) (target_base value : ℕ) (bytes : List ℕ) : Type 0 where

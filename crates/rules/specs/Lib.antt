@@ -1,12 +1,11 @@
 -- The written rules of document 01, one file for each part of it, in its order, and behind them one for each request of document 02
--- that adds a call; request 10's leftovers stand before the refusals, request 3's tidy and request 10's scrub, which are edits, before Edit, and
--- what holds of a tidied list, of a scrubbed one, and of the place in request 8's refusal, behind the others. Read them in the order of these lines.
--- The words for bytes (field, le_bytes, xor, splice, sum, all_zero) are those of wire's specs/Bytes.antt.
+-- that adds a call; request 3's tidy, which is an edit, stands before Edit, and what holds of a tidied list, and of the place in request 8's
+-- refusal, behind the others. Read them in the order of these lines.
+-- The words for bytes (field, le_bytes, xor, splice, sum) are those of wire's specs/Bytes.antt.
 pub mod Area
 pub mod Header
 pub mod Entries
 pub mod Checksum
-pub mod Leftovers
 pub mod Edition
 pub mod Refusals
 pub mod Tags
@@ -19,11 +18,9 @@ pub mod AddAligned
 pub mod Void
 pub mod Relocate
 pub mod Tidy
-pub mod Scrub
 pub mod Edit
 pub mod Demand3
 pub mod Edition09
 pub mod Certificate
 pub mod TidyTwice
-pub mod ScrubOnce
 pub mod BadEntry

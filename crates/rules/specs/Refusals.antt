@@ -1,4 +1,4 @@
--- Document 01, "When a call is turned away": the fourteen refusals, each with its number and exactly when it comes; and request 10's 15.
+-- Document 01, "When a call is turned away": the fourteen refusals, each with its number and exactly when it comes.
 -- 8 ENTRY is the walk's (Entries), 10 SHAPE the tag table's (Tags), 13 NONE and 14 ROOM are each operation's own.
 -- Request 5's 18 to 20 stand in Certificate, request 9's 16 and 17 in the crates journal and steps.
 use Rattle.std.specs.Prelude.{ℕ, ◌+◌, Bool, not, ◌&&◌, ◌||◌, List, leb, ltb, eqb}
@@ -18,12 +18,10 @@ use Rattle.rules.specs.declared.Refusal.TheVariants.{
   Target,
   None,
   Room,
-  Dirty,
 }
 use Rattle.rules.specs.Area.{align8, multiple8, usable, max_length, max_alignment, max_address}
 use Rattle.rules.specs.Header.{header_size, current_version, least_alignment}
 use Rattle.rules.specs.Entries.{wrong_header_size}
-use Rattle.rules.specs.Leftovers.{clean}
 use Rattle.rules.specs.Edition.{Edition}
 use Rattle.rules.specs.declared.Header.{Header}
 
@@ -43,7 +41,6 @@ number_of Align = 11
 number_of Target = 12
 number_of None = 13
 number_of Room = 14
-number_of Dirty = 15
 
 -- the place in an answer, as added by request 8: "The walk's refusal is to carry the offset of the first entry that breaks a rule"; "Other
 -- refusals answer 0 there."
@@ -62,7 +59,6 @@ place_of Align = 0
 place_of Target = 0
 place_of None = 0
 place_of Room = 0
-place_of Dirty = 0
 
 -- 1: the area is not usable
 abbrev pub refuses_area : ℕ → ℕ → Bool
@@ -83,7 +79,7 @@ refuses_signature ed h = not (eqb h.signature ed.signature)
 abbrev pub refuses_version : Header → Bool
 refuses_version h = eqb h.version 0
 
--- 5: version is over 1 and the call is add, add aligned, void or relocate or, as amended by requests 1, 3 and 10, a conversion, a tidy or a scrub
+-- 5: version is over 1 and the call is add, add aligned, void or relocate or, as amended by requests 1 and 3, a conversion or a tidy
 abbrev pub refuses_readonly : Bool → Header → Bool
 refuses_readonly editing h = editing && ltb current_version h.version
 
@@ -122,7 +118,3 @@ refuses_align exponent = outside_alignment exponent
 -- 12: target base + target length exceeds 2^48, or target length exceeds 16,777,216, as amended by request 7
 abbrev pub refuses_target : ℕ → ℕ → Bool
 refuses_target base len = ltb max_address (base + len) || ltb max_length len
-
--- 15, as added by request 10: the list is not clean
-abbrev pub refuses_dirty : List ℕ → Bool
-refuses_dirty a = not (clean a)

@@ -87,8 +87,6 @@ pub enum Refusal {
     Target,
     None,
     Room,
-    // The list is not clean.
-    Dirty,
 }
 
 impl Refusal {
@@ -111,7 +109,6 @@ impl Refusal {
             Refusal::Target => 12,
             Refusal::None => 13,
             Refusal::Room => 14,
-            Refusal::Dirty => 15,
         }
     }
 
@@ -134,7 +131,6 @@ impl Refusal {
             Refusal::Target => 0,
             Refusal::None => 0,
             Refusal::Room => 0,
-            Refusal::Dirty => 0,
         }
     }
 }

@@ -1,19 +1,22 @@
--- The walk that joins voids: what it has still to write, at each place where it stands.
+-- The walk that joins voids: what it has still to write, at each place where it stands. And the checksum worked out afresh.
 use mathlib.Core.Path.{◌≡◌, refl, sym, ap, ◌∙◌}
 use Prim.Native.Nat.{ℕ, ◌+◌, ◌-◌, ◌%◌, ◌≤◌, ◌<◌}
 use native.Mathlib.Omega.{arith}
 use mathlib.Core.Bool.{Bool, true, false, cond}
 use mathlib.Core.List.{List, [], ◌∷◌}
-use lib.ListN.{length}
+use lib.ListN.{length, take, get_or}
+use lib.Seq.{length-take-le, get_or-take}
 use lib.Dec.{eqb}
+use lib.Bits.{bit_xor}
 use borrow.Author.Tests.{eq-eqb, ne_eqb, eqb-true, eqb-false, le-ltb}
-use Rattle.wire.specs.Bytes.{splice}
+use Rattle.wire.specs.Bytes.{xor, splice}
 use Rattle.wire.proofs.Splice.{splice-nil, length-splice, get_or-splice-behind}
 use Rattle.rules.specs.declared.Entry.{Entry}
 use Rattle.rules.specs.declared.Header.{Header}
 use Rattle.rules.specs.Header.{header_of, header_size}
 use Rattle.rules.specs.Edition.{current}
 use Rattle.rules.specs.Entries.{entry_at, is_void, span, entries_of, live_ones}
+use Rattle.rules.specs.Checksum.{fresh_checksum}
 use Rattle.rules.specs.Add.{entry_span}
 use Rattle.rules.specs.Tidy.{void_before, tidied, write_voids, end_of, tidy_used, give_back, tidy_bytes}
 use Rattle.plan.specs.Plan.{whole_void}
@@ -23,6 +26,8 @@ use Rattle.laws.proofs.Row.{Regular, Row, Same, row_le, place_of}
 use Rattle.laws.proofs.Live.{read_same}
 use Rattle.laws.proofs.Ready.{used_of, ready_sound}
 use Rattle.laws.proofs.Written.{entry_of}
+use Rattle.laws.proofs.Xor.{xor-without}
+use Rattle.laws.proofs.Seal.{fresh}
 use Rattle.laws.proofs.Tidy.{before_joined}
 use Rattle.laws.proofs.Tiles.{entry_is}
 use Rattle.laws.proofs.Cleared.{Cleared, cleared}
@@ -208,3 +213,19 @@ module _ (a : List ℕ) (base : ℕ) (h : Header) (u : ℕ) (k : Admitted a base
   pub sealable : (c : List ℕ) → c ≡ tidy_bytes a
       → (h.flags ≡ (header_of c).flags) × (u ≡ used_of c) × (header_size ≤ u) × (u ≤ length c)
   sealable c w = rw (w, k.header) (sym clear.changed.flags, e ∙ sym clear.used, rw e clear.low, rw e clear.inside)
+
+-- ---- the checksum
+
+module _ (a : List ℕ) (flags : ℕ) (f : flags ≡ (header_of a).flags) where
+  -- with has_checksum it is the exclusive or of all used bytes and byte 4
+  pub fresh_summed : (used : ℕ) → used ≡ used_of a → 24 ≤ used → used ≤ length a → flags % 2 ≡ 1
+      → bit_xor (xor (take used a)) (get_or a 4 0) ≡ fresh_checksum a
+  unfolding header_of
+  fresh_summed used u low top h =
+      let l : length (take used a) ≡ used = length-take-le used a top in
+      sym (fresh a ∙ rw (← f, ← u, eq-eqb _ _ h, xor-without (take used a) 4 (omega arith), get_or-take used a 4 0 (omega arith)))
+
+  -- without it 0
+  pub fresh_unsummed : (flags % 2 ≡ 1 → ⊥) → 0 ≡ fresh_checksum a
+  unfolding header_of
+  fresh_unsummed h = sym (fresh a ∙ rw (← f, ne_eqb _ _ h))

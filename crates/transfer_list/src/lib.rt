@@ -9,7 +9,7 @@ ghost use Rattle.rules.specs.Check.{check as check_rule, check_answer};
 ghost use Rattle.rules.specs.Find.{find as find_rule, find_answer, find_data, part_offset};
 ghost use Rattle.rules.specs.Outcome.{answer, bytes_after, done_answer};
 ghost use Rattle.rules.specs.Create.{create as create_rule};
-ghost use Rattle.rules.specs.Edit.{to_add, to_add_aligned, to_void, to_relocate, to_tidy, to_scrub};
+ghost use Rattle.rules.specs.Edit.{to_add, to_add_aligned, to_void, to_relocate, to_tidy};
 ghost use Rattle.rules.specs.Demand3.{Promised, Keeps};
 ghost use Rattle.rules.specs.Edition09.{check09, find09, find_data09, ConvertPromised};
 ghost use Rattle.rules.specs.Certificate.{certify as certify_rule, certified_answer};
@@ -29,7 +29,6 @@ use journalled::{forms, starts};
 use relocate::relocate;
 use rules::certificate::CertifiedAnswer;
 use rules::{CheckAnswer, DoneAnswer, FindAnswer};
-use scrub::scrub;
 use steps::{Stepped, Steps, advance, begin, whole};
 use tidy::tidy;
 use walk::format::Format;
@@ -315,12 +314,4 @@ pub extern "C" fn tl_step(state: Steps, area: &mut [u8], data: &[u8], journal: &
         ≡ stepped «data».now state (memory journal.old area.old) }
 {
     advance::step(state, area, data, journal)
-}
-
-// Scrubs the list: zero in its leftovers. Answers its used size.
-#[unsafe(no_mangle)]
-pub extern "C" fn tl_scrub(area: &mut [u8], base: u64) -> DoneAnswer
-    ensures { Promised to_scrub area.old base result area.new }
-{
-    scrub::scrub(area, base).numbers()
 }

@@ -1,7 +1,6 @@
 // Runs the paper's examples A to N, and examples of edition 0.9, of the event log's length, of tidying, of the checksum's exclusive or, of
-// the test certificate, of the device tree, of alignments up to 21, of bad entries, of the journal and of leftovers, on real bytes and prints
-// what the functions answer and leave; the file stdout holds what the papers' rules give. No buffer is over 64 KiB, so that I's 65,537 bytes
-// are left out.
+// the test certificate, of the device tree, of alignments up to 21, of bad entries and of the journal, on real bytes and prints what the
+// functions answer and leave; the file stdout holds what the papers' rules give. No buffer is over 64 KiB, so that I's 65,537 bytes are left out.
 // A line: the example, the call, the answer's numbers, of a reading its 64 bits, the place of a bad entry, which is 0 where there is none, and
 // the bytes: of a find the data, of create, an edit and a certificate the whole area or target, of two large areas the first 24 bytes; of the
 // exclusive or the start, and the results over 0, 1, 2 .. bytes from there; of a journalled edit, a step and a recovery the area and, behind a
@@ -280,8 +279,7 @@ fn examples_09() {
     show_convert09(b"09 later version convert", later, 0, 0x1000);
 }
 
-// A void that has data and tag 4 whose padding is not 0, converted from base 0 with alignment 3, 6 and 12 and from 0x1040. The
-// targets have 0 in both places.
+// A void that has data and tag 4 whose padding is not 0, converted from base 0 with alignment 3, 6 and 12 and from 0x1040.
 fn conversions_09() {
     let three =
         b"\xff\xd0\x6e\0\x7c\x01\x10\x03\x30\0\0\0\x30\0\0\0\0\0\0\x08\x08\0\0\0old data\x04\0\0\x08\x04\0\0\0\x01\x02\x03\x04pads";
@@ -341,21 +339,8 @@ fn make_six(area: &mut [u8]) {
     edit::edits::add(area, 0x1000, 1, b"", false);
 }
 
-// A list with leftovers: its tidying is refused; scrubbed, and tidied.
-fn scrub_and_tidy(example: &[u8], area: &mut [u8]) {
-    let refused = tidy::tidy(area, 0x1000);
-    io::write_all(1, example);
-    show_done(b" tidy", refused, area);
-    let scrubbed = scrub::scrub(area, 0x1000);
-    io::write_all(1, example);
-    show_done(b" scrub", scrubbed, area);
-    let tidied = tidy::tidy(area, 0x1000);
-    io::write_all(1, example);
-    show_done(b" tidy", tidied, area);
-}
-
 // The six with other tags for 1, set by hand, and so is the checksum: with tag 0, voids that still have their data. A byte of padding and
-// one behind the used bytes are not 0. Scrubbed, and tidied twice.
+// one behind the used bytes are not 0. Tidied twice.
 fn tidy_six(example: &[u8], first: u8, second: u8, fourth: u8, fifth: u8, sixth: u8) {
     let mut area = [0u8; 104];
     make_six(&mut area);
@@ -368,7 +353,9 @@ fn tidy_six(example: &[u8], first: u8, second: u8, fourth: u8, fifth: u8, sixth:
     area[103] = 0xee;
     area[4] = 0x6a ^ first ^ second ^ fourth ^ fifth ^ sixth;
     show_check(example, &area, 0x1000);
-    scrub_and_tidy(example, &mut area);
+    let once = tidy::tidy(&mut area, 0x1000);
+    io::write_all(1, example);
+    show_done(b" tidy", once, &area);
     let twice = tidy::tidy(&mut area, 0x1000);
     io::write_all(1, example);
     show_done(b" tidy", twice, &area);
@@ -386,7 +373,8 @@ fn tidy_only_voids() {
     area[48] = 0;
     area[4] = 0xe4;
     show_check(b"only voids", &area, 0x1000);
-    scrub_and_tidy(b"only voids", &mut area);
+    let tidied = tidy::tidy(&mut area, 0x1000);
+    show_done(b"only voids tidy", tidied, &area);
     show_check(b"only voids", &area, 0x1000);
 }
 
@@ -400,7 +388,8 @@ fn tidy_without_checksum() {
     area[40] = 0;
     area[16] = 0xfe;
     area[20] = 0x5a;
-    scrub_and_tidy(b"voids without checksum", &mut area);
+    let tidied = tidy::tidy(&mut area, 0x1000);
+    show_done(b"voids without checksum tidy", tidied, &area);
     show_check(b"voids without checksum", &area, 0x1000);
 }
 
@@ -943,22 +932,22 @@ fn fdt_finds() {
 
 // ---- Alignments up to 21 (document 02, request 7). The examples are our own.
 
-// Four bytes aligned, in a new list of 80 bytes.
+// Four bytes aligned, in a new list of 80 bytes. Byte 40, where the padding void will be, is not 0 before.
 fn aligned_near(example: &[u8], base: u64, exponent: u32) {
     let mut area = [0u8; 80];
     create::create(&mut area, base, true);
+    area[40] = 0xee;
     let aligned = edit::edits::add_aligned(&mut area, base, 4, b"\x01\x02\x03\x04", exponent);
     io::write_all(1, example);
     show_done(b" add aligned", aligned, &area);
     show_check(example, &area, base);
 }
 
-// A padding void with 32,728 bytes of data in an area of 65,536; byte 1000 is not 0 before it is scrubbed. The first 24 bytes are shown.
+// A padding void with 32,728 bytes of data in an area of 65,536; byte 1000 is not 0 before. The first 24 bytes are shown.
 fn aligned_far() {
     let mut area = [0xffu8; 65536];
     create::create(&mut area, 0x1f_8000, true);
     area[1000] = 0xee;
-    scrub::scrub(&mut area, 0x1f_8000);
     let aligned = edit::edits::add_aligned(&mut area, 0x1f_8000, 4, b"\x01\x02\x03\x04", 21);
     show_first(b"large padding add aligned", aligned, &area);
     show_check(b"large padding", &area, 0x1f_8000);
@@ -1202,102 +1191,6 @@ fn foreign_state() {
     show_next(r, &mut area, &mut journal);
 }
 
-// ---- No leftovers (document 02, request 10). The examples are our own.
-
-// Tag 1 with padding from 35, a void with data from 48, tag 2 with padding from 69, used 72 and total 88, in 90 bytes. Some are set by hand.
-fn make_dirty(area: &mut [u8], has_checksum: bool, at: usize, bytes: &[u8]) {
-    create::create(area, 0x1000, has_checksum);
-    edit::edits::add(area, 0x1000, 1, b"\xaa\xbb\xcc", false);
-    edit::edits::add(area, 0x1000, 3, b"old data", false);
-    edit::edits::add(area, 0x1000, 2, b"\x01\x02\x03\x04\0", false);
-    edit::edits::void(area, 0x1000, 3, 0);
-    put_part(area, at, bytes);
-}
-
-// One byte, with what the checksum needs for it. A void of tag 0 is TAG where the list is clean; the scrub.
-fn leftover(example: &[u8], at: usize, sum: u8) {
-    let mut area = [0u8; 90];
-    make_dirty(&mut area, true, at, b"\x5a");
-    area[4] = area[4] ^ sum;
-    let voided = edit::edits::void(&mut area, 0x1000, 0, 0);
-    io::write_all(1, example);
-    show_done(b" void", voided, &area);
-    let scrubbed = scrub::scrub(&mut area, 0x1000);
-    io::write_all(1, example);
-    show_done(b" scrub", scrubbed, &area);
-}
-
-// Leftovers are the padding, the void's data and the bytes from used to total; not the data, the byte at total and the one behind.
-fn leftovers() {
-    leftover(b"last byte of data", 68, 0x5a);
-    leftover(b"padding of the first", 35, 0x5a);
-    leftover(b"padding of the last", 71, 0x5a);
-    leftover(b"void's data", 48, 0x5a);
-    leftover(b"first byte behind used", 72, 0);
-    leftover(b"last byte before total", 87, 0);
-    leftover(b"byte at total", 88, 0);
-    leftover(b"byte behind total", 89, 0);
-    leftover(b"padding and bad checksum", 35, 0);
-}
-
-// What reads a list with leftovers, and what refuses it, before its own refusals: of tag 0, exponent 22, a target beyond 2^48.
-fn dirty_calls() {
-    let mut area = [0u8; 90];
-    let mut target = [0xffu8; 96];
-    make_dirty(&mut area, false, 35, b"\x5a");
-    show_check(b"dirty", &area, 0x1000);
-    show_find(b"dirty", &area, 0x1000, 1, 0);
-    show_certificate(b"dirty", &area, 1, 1);
-    let added = edit::edits::add(&mut area, 0x1000, 0, b"", true);
-    show_done(b"dirty add", added, &area);
-    let aligned = edit::edits::add_aligned(&mut area, 0x1000, 4, b"", 22);
-    show_done(b"dirty add aligned", aligned, &area);
-    let tidied = tidy::tidy(&mut area, 0x1000);
-    show_done(b"dirty tidy", tidied, &area);
-    let moved = relocate::relocate(&area, 0x1000, &mut target, 0xffff_ffff_ffa1);
-    show_done(b"dirty relocate", moved, &target);
-}
-
-// The calls with a journal, of which there is none: 16 comes last.
-fn dirty_journalled() {
-    let mut area = [0u8; 90];
-    make_dirty(&mut area, false, 35, b"\x5a");
-    let added = journalled::forms::add(&mut area, 0x1000, 2, b"", true, &mut []);
-    show_both(b"dirty add, no journal", added, &area, b"");
-    let aligned = journalled::forms::add_aligned(&mut area, 0x1000, 4, b"", 22, &mut []);
-    show_both(b"dirty add aligned, no journal", aligned, &area, b"");
-    let voided = journalled::forms::void(&mut area, 0x1000, 9, 0, &mut []);
-    show_both(b"dirty void, no journal", voided, &area, b"");
-    let r = journalled::starts::void(&area, 0x1000, 1, 0, b"").report();
-    show_step(b"dirty void steps, no journal", r, &area, b"");
-}
-
-// All leftovers and the two bytes behind total, without a checksum; other flags are not 0. Of version 2; the void with a header of 9; scrubbed.
-fn scrubs() {
-    let mut area = [0u8; 90];
-    make_dirty(&mut area, false, 69, b"padding, room, behind");
-    put_part(&mut area, 35, b"first");
-    put_part(&mut area, 48, b"old data");
-    area[16] = 0xfe;
-    area[5] = 2;
-    let later = scrub::scrub(&mut area, 0x1000);
-    show_done(b"version 2 scrub", later, &area);
-    area[5] = 1;
-    area[43] = 9;
-    let bad = scrub::scrub(&mut area, 0x1000);
-    show_done(b"header of 9 scrub", bad, &area);
-    area[43] = 8;
-    let scrubbed = scrub::scrub(&mut area, 0x1000);
-    show_done(b"no checksum scrub", scrubbed, &area);
-}
-
-// Edition 0.9: tag 1 with padding, a void that has data, and bytes from size to max_size; the target's base is odd.
-fn dirty_09() {
-    let old =
-        b"\xff\xd0\x6e\0\x27\x01\x10\x03\x30\0\0\0\x38\0\0\0\x01\0\0\x08\x03\0\0\0\xaa\xbb\xccfirst\0\0\0\x08\x08\0\0\0old datamax_size";
-    show_convert09(b"09 dirty convert", old, 0, 0xff9);
-}
-
 fn main() {
     examples_a_to_d();
     example_e(b"0123456789abcdefg");
@@ -1363,9 +1256,4 @@ fn main() {
     recoveries();
     stepped_void();
     foreign_state();
-    leftovers();
-    dirty_calls();
-    dirty_journalled();
-    scrubs();
-    dirty_09();
 }

@@ -5,4 +5,3 @@ pub mod Sum
 pub mod Splice
 pub mod Field
 pub mod Fold
-pub mod Zeros

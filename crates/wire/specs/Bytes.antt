@@ -1,6 +1,6 @@
--- The words in which everything here speaks of bytes: little-endian numbers, exclusive or, sums, zeros, and a stretch put into a list.
+-- The words in which everything here speaks of bytes: little-endian numbers, exclusive or, sums, and a stretch put into a list.
 -- A list of bytes is a list of numbers; nothing here knows what a transfer list is.
-use Rattle.std.specs.Prelude.{ℕ, zero, suc, ◌+◌, ◌*◌, ◌/◌, ◌%◌, Bool, true, ◌&&◌, List, [], ◌∷◌, ◌++◌, length, take, drop, ◌==◌, bit_xor, slice_index}
+use Rattle.std.specs.Prelude.{ℕ, zero, suc, ◌+◌, ◌*◌, ◌/◌, ◌%◌, List, [], ◌∷◌, ◌++◌, length, take, drop, bit_xor, slice_index}
 
 -- the little-endian number of the k bytes of a from at on; a byte behind the end counts 0
 unfoldable pub field : List ℕ → ℕ → ℕ → ℕ
@@ -25,8 +25,3 @@ splice a at new = take at a ++ (new ++ drop (at + length new) a)
 unfoldable pub sum : List ℕ → ℕ
 sum [] = 0
 sum (b ∷ bs) = b + sum bs
-
--- every byte is 0
-unfoldable pub all_zero : List ℕ → Bool
-all_zero [] = true
-all_zero (b ∷ bs) = b == 0 && all_zero bs

@@ -1,6 +1,6 @@
 // Numbers, exclusive or, sums, zeros and copies on slices of bytes. Knows nothing of transfer lists.
 ghost use Rattle.std.specs.Prelude.{◌≡◌, ◌+◌, ◌*◌, ◌%◌, ◌^◌, ◌<◌, ◌≤◌, length, take, drop, replicate, slice_index};
-ghost use Rattle.wire.specs.Bytes.{field, le_bytes, xor, splice, sum, all_zero};
+ghost use Rattle.wire.specs.Bytes.{field, le_bytes, xor, splice, sum};
 
 // A byte as a wider number: the cast asks for no proof here.
 fn wide(x: u8) -> u32
@@ -215,99 +215,4 @@ pub fn sum_part(s: &[u8], at: usize, n: usize) -> u8
         i += 1;
     }
     x
-}
-
-// The eight words from at on are 0.
-fn is_zero_block(s: &[u8], at: usize) -> bool
-    requires { at + 64 ≤ length s.now }
-    ensures { result ≡ all_zero (take 64 (drop at s.now)) }
-{
-    let low = (read8(s, at) == 0)
-        & (read8(s, at + 8) == 0)
-        & (read8(s, at + 16) == 0)
-        & (read8(s, at + 24) == 0);
-    low & (read8(s, at + 32) == 0)
-        & (read8(s, at + 40) == 0)
-        & (read8(s, at + 48) == 0)
-        & (read8(s, at + 56) == 0)
-}
-
-// The n blocks of eight words from at on are 0.
-fn is_zero_blocks(s: &[u8], at: usize, n: usize) -> bool
-    requires { at + 64 * n ≤ length s.now }
-    ensures { result ≡ all_zero (take (64 * n) (drop at s.now)) }
-{
-    let mut i: usize = 0;
-    while i < n {
-        if !is_zero_block(s, at + 64 * i) {
-            return false;
-        }
-        i += 1;
-    }
-    true
-}
-
-// The n words from at on are 0, one by one.
-fn is_zero_words(s: &[u8], at: usize, n: usize) -> bool
-    requires { at + 8 * n ≤ length s.now }
-    ensures { result ≡ all_zero (take (8 * n) (drop at s.now)) }
-{
-    let mut i: usize = 0;
-    while i < n {
-        if read8(s, at + 8 * i) != 0 {
-            return false;
-        }
-        i += 1;
-    }
-    true
-}
-
-// The n bytes from at on are 0, one by one.
-fn is_zero_bytes(s: &[u8], at: usize, n: usize) -> bool
-    requires { at + n ≤ length s.now }
-    ensures { result ≡ all_zero (take n (drop at s.now)) }
-{
-    let mut i: usize = 0;
-    while i < n {
-        if s[at + i] != 0 {
-            return false;
-        }
-        i += 1;
-    }
-    true
-}
-
-// Fewer than eight bytes from at on are 0: from four on the first four and the last four, which may overlap, else one by one.
-fn is_zero_short(s: &[u8], at: usize, n: usize) -> bool
-    requires { (n < 8) × (at + n ≤ length s.now) }
-    ensures { result ≡ all_zero (take n (drop at s.now)) }
-{
-    if n < 4 {
-        return is_zero_bytes(s, at, n);
-    }
-    if read4(s, at) != 0 {
-        return false;
-    }
-    read4(s, at + (n - 4)) == 0
-}
-
-// The n bytes from at on are 0: eight words at a time, then single words, and what is left where it is fewer than eight bytes.
-pub fn is_zero_part(s: &[u8], at: usize, n: usize) -> bool
-    requires { at + n ≤ length s.now }
-    ensures { result ≡ all_zero (take n (drop at s.now)) }
-{
-    if n < 8 {
-        return is_zero_short(s, at, n);
-    }
-    let blocks = n / 64;
-    if !is_zero_blocks(s, at, blocks) {
-        return false;
-    }
-    let rest = n % 64;
-    let words = rest / 8;
-    let behind = at + 64 * blocks;
-    if !is_zero_words(s, behind, words) {
-        return false;
-    }
-    is_zero_short(s, behind + 8 * words, rest % 8)
 }

@@ -1,9 +1,9 @@
--- The entries are laid out in the target and lose their leftovers there, and the new header with its checksum is put before them.
+-- The entries are laid out in the target, and the new header with its checksum is put before them.
 use mathlib.Core.Path.{◌≡◌, ap, ◌∙◌}
 use Prim.Native.Nat.{ℕ, ◌-◌, ◌≤◌}
 use native.Mathlib.Omega.{arith}
 use mathlib.Core.List.{List}
-use lib.ListN.{length, take, drop, length-set}
+use lib.ListN.{length, take, drop, set, length-set}
 use lib.Bits.{bit_xor}
 use Rattle.wire.specs.Bytes.{splice}
 use Rattle.wire.proofs.Splice.{splice_all}
@@ -13,7 +13,7 @@ use Rattle.rules.specs.Edition09.{edition09, grown_header}
 use Rattle.laws.proofs.Check.{used-least, used-most}
 use Rattle.laws.proofs.Lists.{length_part}
 use Rattle.laws.proofs.FreshList.{length-header_bytes}
-use Rattle.convert.proofs.Laws.{laid_ready, laid_zeroed, target_read}
+use Rattle.convert.proofs.Laws.{target_read}
 use borrow.Author.Rules.{rules}
 use Rattle.convert.proofs.write_target.Statement.{statement}
 use Rattle.convert.proofs.write_target.Tie as tie
@@ -58,31 +58,6 @@ grown-header-requires c κs = search rules
 write-header-requires : tie.Need-write-header-requires
 write-header-requires c κs = search rules
 
--- so many bytes of entries
-part : (c : tie.Start) → length (take (c.args.h.used_size - 16) (drop 16 c.args.area.now)) ≡ c.args.h.used_size - 16
-part c = length_part c.args.area.now 16 (c.args.h.used_size - 16) (omega (arith, low c, high c))
-
-add-first : tie.Need-overflow-add-first
-add-first c = search rules
-
-lay-out-requires : tie.Need-lay-out-requires
-lay-out-requires c κs = let s = S c.before.before in omega (arith, low s, part s, s.pre.1)
-
-abbrev W : tie.After-lay-out → tie.After-write-header
-W c = c.before.before.before
-
-add-zero-leftovers : tie.Need-overflow-add-zero-leftovers
-add-zero-leftovers c = let s = S (W c.before.before.before) in omega (arith, low s, part s, s.pre.1, s.pre.2)
-
-zero-leftovers-requires : tie.Need-zero-leftovers-requires
-zero-leftovers-requires c κs =
-    let l = c.before.before.before in
-    let s = S (W l) in
-    laid_ready _ _ s.pre.0.sound s.pre.0.version _ s.pre.0.header _ _ s.pre.2 s.pre.1 _ l.lay-out.ensures
-
-abbrev L : tie.After-zero-leftovers → tie.After-lay-out
-L c = c.before.before.before.before
-
 slice-aggregate-xor-part : tie.Need-slice-aggregate-xor-part
 slice-aggregate-xor-part c = search rules
 
@@ -90,21 +65,32 @@ xor-part-requires : tie.Need-xor-part-requires
 xor-part-requires c κs = search rules
 
 xor-part-requires-2 : tie.Need-xor-part-requires-2
-xor-part-requires-2 c κs =
-    let z = c.before.before.before.before.before in
-    let l = L z in
-    let s = S (W l) in
-    omega (arith, low s, part s, s.pre.1, l.lay-out.kept.0, z.zero-leftovers.auto.0)
+xor-part-requires-2 c κs = search rules
 
 array-write-header : tie.Need-array-write-header
 array-write-header c = search rules
 
+add-lay-out : tie.Need-overflow-add-lay-out
+add-lay-out c = search rules
+
+-- so many bytes of entries
+part : (c : tie.Start) → length (take (c.args.h.used_size - 16) (drop 16 c.args.area.now)) ≡ c.args.h.used_size - 16
+part c = length_part c.args.area.now 16 (c.args.h.used_size - 16) (omega (arith, low c, high c))
+
+lay-out-requires : tie.Need-lay-out-requires
+lay-out-requires c κs =
+    let s = S c.before.before.before.before.before in
+    omega (arith, low s, part s)
+
 slice-aggregate-copy-part : tie.Need-slice-aggregate-copy-part
 slice-aggregate-copy-part c = search rules
 
+abbrev W : tie.After-lay-out → tie.After-write-header
+W c = c.before.before.before.before.before.before
+
 -- the checksum byte
-abbrev checksum : tie.After-xor-part2 → ℕ
-checksum c = bit_xor c.before.before.xor-part.result c.xor-part2.result
+abbrev checksum : tie.After-lay-out → ℕ
+checksum c = let x = c.before.before in bit_xor x.before.xor-part.result x.xor-part2.result
 
 -- the header's bytes
 written : (c : tie.After-write-header) → let a = (S c).args in
@@ -116,12 +102,10 @@ written c =
 
 copy-part-requires : tie.Need-copy-part-requires
 copy-part-requires c κs =
-    let x = c.before.before in
-    let z = x.before.before.before.before.before.before in
-    let l = L z in
-    let s = S (W l) in
-    let h : List ℕ = (W l).write-header.last.0 in
-    omega (arith, low s, s.pre.1, l.lay-out.kept.0, z.zero-leftovers.auto.0, (W l).write-header.kept.0, length-set h 4 (checksum x))
+    let l = c.before.before.before.before in
+    let h : List ℕ = (W l).write-header.new.0 in
+    let fits = (S (W l)).requires.1 in
+    omega (arith, l.lay-out.auto.0, length-set h 4 (checksum l), (W l).write-header.auto.0, low (S (W l)))
 
 same_length : tie.Need-same-length
 same_length c = search rules
@@ -129,15 +113,14 @@ same_length c = search rules
 returns : tie.Need-returns
 returns c =
     let k = c.before.before in
-    let x = k.before.before.before in
-    let z = x.before.before.before.before.before.before in
-    let l = L z in
-    let s = S (W l) in
-    let m = s.pre in
-    let w = z.zero-leftovers.ensures ∙ laid_zeroed _ _ m.0.sound m.0.version _ m.0.header _ _ m.2 m.1 _ l.lay-out.ensures in
+    let l = k.before.before.before.before.before in
+    let x = l.before.before in
+    let a = (S (W l)).args in
+    let m = (S (W l)).requires in
     k.copy-part.ensures
-    ∙ target_read _ _ m.0.sound m.0.version _ m.0.header _ _ m.2 m.1 _ _ _ _ w (written (W l)) x.before.before.xor-part.ensures
-    x.xor-part2.ensures
+    ∙ ap (λ (t : List ℕ). splice t a.shift (set (W l).write-header.new.0 4 (checksum l))) l.lay-out.ensures
+    ∙ target_read a.area.now a.base m.0.sound a.h _ a.shift _ _ _ m.0.header (written (W l)) x.before.xor-part.ensures
+    x.xor-part2.ensures m.2 m.1
 
 pub write-target-spec : {M : Type 1} → statement M
 write-target-spec =
@@ -153,14 +136,12 @@ write-target-spec =
     sub-grown-header
     grown-header-requires
     write-header-requires
-    add-first
-    lay-out-requires
-    add-zero-leftovers
-    zero-leftovers-requires
     slice-aggregate-xor-part
     xor-part-requires
     xor-part-requires-2
     array-write-header
+    add-lay-out
+    lay-out-requires
     slice-aggregate-copy-part
     copy-part-requires
     same_length

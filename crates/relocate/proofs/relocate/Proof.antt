@@ -8,7 +8,7 @@ use Rattle.rules.specs.Edition.{current}
 use Rattle.rules.specs.Relocate.{target_bytes}
 use Rattle.rules.specs.Edit.{run, to_relocate}
 use Rattle.laws.proofs.Check.{Admitted, used-most}
-use Rattle.clean.proofs.Admission as admission
+use Rattle.walk.proofs.Survey as survey
 use Rattle.destination.proofs.Laws.{outcome_at, HasRoom, placed-room}
 use Rattle.relocate.proofs.Laws.{relocate-placed}
 use borrow.Author.Rules.{rules}
@@ -18,8 +18,8 @@ use Rattle.relocate.proofs.relocate.Tie as tie
 nothing-requires : tie.Need-nothing-requires
 nothing-requires c κs = search rules
 
-admit-requires : tie.Need-admit-requires
-admit-requires c κs = search rules
+survey-requires : tie.Need-survey-requires
+survey-requires c κs = search rules
 
 enum-known-surveyed : tie.Need-enum-known-surveyed
 enum-known-surveyed c = search rules
@@ -34,7 +34,7 @@ returns : tie.Need-returns
 returns c =
     let s = c.before.before.before in
     let k = c.before.enum_told.given.1 in
-    let r = admission.refused _ _ _ _ (sym s.admit.ensures ∙ k) in
+    let r = survey.refused _ _ _ _ _ (sym s.survey.ensures ∙ k) in
     (simp (c.refusal.ensures, k, r), simp r)
 
 cast-needed : tie.Need-overflow-cast-needed
@@ -44,7 +44,7 @@ abbrev S : tie.After-surveyed → tie.Start
 S c = c.before.before.before.before.before.before
 
 admitted : (c : tie.After-surveyed) → Admitted (S c).args.area.now (S c).args.base c.surveyed.given.0.1.0
-admitted c = admission.admitted _ _ _ _ _ _ (sym c.before.before.admit.ensures ∙ c.surveyed.given.1)
+admitted c = survey.admitted _ _ _ _ _ _ (sym c.before.before.survey.ensures ∙ c.surveyed.given.1)
 
 -- the alignment and the used size are small
 small : (c : tie.After-surveyed) → let h = c.surveyed.given.0.1.0 in (h.alignment ≤ max_alignment) × (h.used_size ≤ max_length)
@@ -64,7 +64,7 @@ ruled : (c : tie.After-find-place) → let a = (S (K c)).args in
     ≡ outcome_at (λ (by : ℕ). target_bytes a.area.now by (length a.target.now)) c.find-place.result
 ruled c =
     let k = K c in
-    let t = (admission.accepted _ _ _ _ _ _ (sym k.before.before.admit.ensures ∙ k.surveyed.given.1)).checked in
+    let t = (survey.accepted _ _ _ _ _ _ _ (sym k.before.before.survey.ensures ∙ k.surveyed.given.1)).checked in
     simp t (relocate-placed _ _ _ _ _ (admitted k).header) ∙ ap (outcome_at _) (sym c.find-place.ensures)
 
 enum-known-place : tie.Need-enum-known-place
@@ -112,7 +112,7 @@ relocate-spec =
     tie.close
     (tie.spec
     nothing-requires
-    admit-requires
+    survey-requires
     enum-known-surveyed
     enum_told
     refusal-requires

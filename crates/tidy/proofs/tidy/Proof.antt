@@ -4,7 +4,7 @@ use Rattle.rules.specs.Checksum.{seal}
 use Rattle.rules.specs.Outcome.{done}
 use Rattle.rules.specs.Tidy.{tidy_used, tidy_bytes, tidy}
 use Rattle.rules.specs.Edit.{run, to_tidy}
-use Rattle.clean.proofs.Admission as admission
+use Rattle.walk.proofs.Survey as survey
 use borrow.Author.Rules.{rules}
 use Rattle.tidy.proofs.tidy.Statement.{statement}
 use Rattle.tidy.proofs.tidy.Tie as tie
@@ -12,8 +12,8 @@ use Rattle.tidy.proofs.tidy.Tie as tie
 nothing-requires : tie.Need-nothing-requires
 nothing-requires c κs = search rules
 
-admit-requires : tie.Need-admit-requires
-admit-requires c κs = search rules
+survey-requires : tie.Need-survey-requires
+survey-requires c κs = search rules
 
 enum-known-surveyed : tie.Need-enum-known-surveyed
 enum-known-surveyed c = search rules
@@ -31,13 +31,13 @@ returns : tie.Need-returns
 returns c =
     let s = c.before.before.before in
     let k = c.before.enum_told.given.1 in
-    let r = admission.refused _ _ _ _ (sym s.admit.ensures ∙ k) in
+    let r = survey.refused _ _ _ _ _ (sym s.survey.ensures ∙ k) in
     (simp (c.refusal.ensures, k, r), simp r)
 
 write-tidy-requires : tie.Need-write-tidy-requires
 write-tidy-requires c κs =
     let k = c.before.before in
-    admission.admitted _ _ _ _ _ _ (sym k.before.before.admit.ensures ∙ k.surveyed.given.1)
+    survey.admitted _ _ _ _ _ _ (sym k.before.before.survey.ensures ∙ k.surveyed.given.1)
 
 same-length-2 : tie.Need-same-length-2
 same-length-2 c = search rules
@@ -47,7 +47,7 @@ ruled : (c : tie.After-surveyed) → let a = c.before.before.before.before.befor
     run to_tidy a.area.now a.base ≡ done (tidy_used a.area.now) (seal (tidy_bytes a.area.now))
 unfolding tidy
 ruled c =
-    let t = (admission.accepted _ _ _ _ _ _ (sym c.before.before.admit.ensures ∙ c.surveyed.given.1)).checked in
+    let t = (survey.accepted _ _ _ _ _ _ _ (sym c.before.before.survey.ensures ∙ c.surveyed.given.1)).checked in
     simp t
 
 returns-2 : tie.Need-returns-2
@@ -61,7 +61,7 @@ tidy-spec =
     tie.close
     (tie.spec
     nothing-requires
-    admit-requires
+    survey-requires
     enum-known-surveyed
     enum_told
     refusal-requires

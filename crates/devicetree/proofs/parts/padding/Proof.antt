@@ -3,7 +3,7 @@ use mathlib.Core.Path.{refl}
 use native.Mathlib.Omega.{arith}
 use borrow.Author.Tests.{not-true, not-false}
 use Rattle.devicetree.proofs.Deciding.{said_yes, said_no}
-use Rattle.devicetree.proofs.PartLaws.{padding-found, padding-long, padding-dirty}
+use Rattle.devicetree.proofs.PartLaws.{padding-found, padding-long, padding_dirty}
 use borrow.Author.Rules.{rules}
 use Rattle.devicetree.proofs.parts.padding.Statement.{statement}
 use Rattle.devicetree.proofs.parts.padding.Tie as tie
@@ -21,7 +21,7 @@ zeros-requires : tie.Need-zeros-requires
 zeros-requires c κs = search rules
 
 returns-2 : tie.Need-returns-2
-returns-2 c = padding-dirty refl (said_no c.before.zeros.ensures (not-true _ c.if2.true))
+returns-2 c = padding_dirty refl (said_no c.before.zeros.ensures (not-true _ c.if2.true))
 
 returns-3 : tie.Need-returns-3
 returns-3 c = padding-found refl (omega arith) (said_yes c.before.zeros.ensures (not-false _ c.if2.false))

@@ -1,4 +1,4 @@
--- What the admission or a test refuses is refused; behind them the outcome is that of the place.
+-- What the survey or a test refuses is refused; behind them the outcome is that of the place.
 use mathlib.Core.Path.{◌≡◌, sym, ◌∙◌}
 use mathlib.Core.Bool.{cond}
 use lib.ListN.{length}
@@ -9,15 +9,15 @@ use Rattle.rules.specs.Add.{taken_void, add_at, add}
 use Rattle.rules.specs.Edit.{run, to_add}
 use Rattle.laws.proofs.Passed.{tag_range}
 use Rattle.laws.proofs.Walk.{neither}
+use Rattle.walk.proofs.Survey as survey
 use Rattle.walk.proofs.Survey.{first_fit_wanted}
-use Rattle.clean.proofs.Admission as admission
 use Rattle.edit.proofs.Laws.{decides_refused}
 use borrow.Author.Rules.{rules}
 use Rattle.edit.proofs.decide.decide_add.Statement.{statement}
 use Rattle.edit.proofs.decide.decide_add.Tie as tie
 
-admit-requires : tie.Need-admit-requires
-admit-requires c κs = search rules
+survey-requires : tie.Need-survey-requires
+survey-requires c κs = search rules
 
 enum-known-surveyed : tie.Need-enum-known-surveyed
 enum-known-surveyed c = search rules
@@ -32,7 +32,7 @@ returns : tie.Need-returns
 returns c =
     let s = c.before.before.before in
     let k = c.before.enum_told.given.1 in
-    decides_refused _ _ _ _ _ (simp (c.refusal.ensures, k, admission.refused _ _ _ _ (sym s.admit.ensures ∙ k)))
+    decides_refused _ _ _ _ _ (simp (c.refusal.ensures, k, survey.refused _ _ _ _ _ (sym s.survey.ensures ∙ k)))
 
 refuses-tag-add-requires : tie.Need-refuses-tag-add-requires
 refuses-tag-add-requires c κs = search rules
@@ -51,7 +51,7 @@ placed c =
 
 -- the list is admitted
 ran : (c : tie.After-surveyed) → let a = (S c).args in ruled c ≡ add a.area.now a.tag a.«data».now a.use-voids
-ran c = simp (admission.accepted _ _ _ _ _ _ (sym c.before.before.admit.ensures ∙ c.surveyed.given.1)).checked
+ran c = simp (survey.accepted _ _ _ _ _ _ _ (sym c.before.before.survey.ensures ∙ c.surveyed.given.1)).checked
 
 returns-2 : tie.Need-returns-2
 unfolding add
@@ -80,10 +80,10 @@ decide-place-requires : tie.Need-decide-place-requires
 decide-place-requires c κs =
     let t = c.before.before in
     let k = t.before.before.before in
-    let e = sym k.before.before.admit.ensures ∙ k.surveyed.given.1 in
-    let f = (admission.accepted _ _ _ _ _ _ e).found in
+    let e = sym k.before.before.survey.ensures ∙ k.surveyed.given.1 in
+    let f = (survey.accepted _ _ _ _ _ _ _ e).found in
     let r = (neither _ _ (sym t.before.refuses-tag-add.ensures ∙ t.if1.false)).0 in
-    (admission.admitted _ _ _ _ _ _ e, rw first_fit_wanted f, (tag_range _ r).1)
+    (survey.admitted _ _ _ _ _ _ e, rw first_fit_wanted f, (tag_range _ r).1)
 
 returns-4 : tie.Need-returns-4
 returns-4 c = rw (shaped c.before) c.decide-place.ensures
@@ -92,7 +92,7 @@ pub decide-add-spec : {M : Type 1} → statement M
 decide-add-spec =
     tie.close
     (tie.spec
-    admit-requires
+    survey-requires
     enum-known-surveyed
     enum_told
     refusal-requires

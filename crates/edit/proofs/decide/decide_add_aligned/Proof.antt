@@ -1,4 +1,4 @@
--- What the admission or a test refuses is refused; behind them the aligned add is one at used_size behind its padding void.
+-- What the survey or a test refuses is refused; behind them the aligned add is one at used_size behind its padding void.
 use mathlib.Core.Path.{◌≡◌, sym, ap, ◌∙◌}
 use Prim.Native.Nat.{◌≤◌}
 use native.Mathlib.Omega.{arith}
@@ -16,7 +16,7 @@ use Rattle.rules.specs.Edit.{run, to_add_aligned}
 use Rattle.laws.proofs.Check.{Admitted}
 use Rattle.laws.proofs.Passed.{tag_range, align_range}
 use Rattle.laws.proofs.Walk.{neither}
-use Rattle.clean.proofs.Admission as admission
+use Rattle.walk.proofs.Survey as survey
 use Rattle.edit.proofs.Laws.{decides_refused, padding-span, padding-small, aligned-end}
 use borrow.Author.Rules.{rules}
 use Rattle.edit.proofs.decide.decide_add_aligned.Statement.{statement}
@@ -25,8 +25,8 @@ use Rattle.edit.proofs.decide.decide_add_aligned.Tie as tie
 nothing-requires : tie.Need-nothing-requires
 nothing-requires c κs = search rules
 
-admit-requires : tie.Need-admit-requires
-admit-requires c κs = search rules
+survey-requires : tie.Need-survey-requires
+survey-requires c κs = search rules
 
 enum-known-surveyed : tie.Need-enum-known-surveyed
 enum-known-surveyed c = search rules
@@ -41,7 +41,7 @@ returns : tie.Need-returns
 returns c =
     let s = c.before.before.before in
     let k = c.before.enum_told.given.1 in
-    decides_refused _ _ _ _ _ (simp (c.refusal.ensures, k, admission.refused _ _ _ _ (sym s.admit.ensures ∙ k)))
+    decides_refused _ _ _ _ _ (simp (c.refusal.ensures, k, survey.refused _ _ _ _ _ (sym s.survey.ensures ∙ k)))
 
 refuses-tag-add-requires : tie.Need-refuses-tag-add-requires
 refuses-tag-add-requires c κs = search rules
@@ -59,7 +59,7 @@ at_end c = let a = (S c).args in add_aligned_at_end a.area.now a.base a.tag a.«
 -- the list is admitted
 ran : (c : tie.After-surveyed) → let a = (S c).args in
     ruled c ≡ add_aligned a.area.now a.base a.tag a.«data».now a.exponent
-ran c = simp (admission.accepted _ _ _ _ _ _ (sym c.before.before.admit.ensures ∙ c.surveyed.given.1)).checked
+ran c = simp (survey.accepted _ _ _ _ _ _ _ (sym c.before.before.survey.ensures ∙ c.surveyed.given.1)).checked
 
 returns-2 : tie.Need-returns-2
 unfolding add_aligned
@@ -99,7 +99,7 @@ abbrev header : tie.Else3 → Header
 header c = (K c).surveyed.given.0.1.0
 
 admitted : (c : tie.Else3) → Admitted (S (K c)).args.area.now (S (K c)).args.base (header c)
-admitted c = admission.admitted _ _ _ _ _ _ (sym (K c).before.before.admit.ensures ∙ (K c).surveyed.given.1)
+admitted c = survey.admitted _ _ _ _ _ _ (sym (K c).before.before.survey.ensures ∙ (K c).surveyed.given.1)
 
 -- the exponent is in its range
 ranged : (c : tie.Else3) → (least_alignment ≤ (S (K c)).args.exponent) × ((S (K c)).args.exponent ≤ max_alignment)
@@ -146,7 +146,7 @@ decide-add-aligned-spec =
     tie.close
     (tie.spec
     nothing-requires
-    admit-requires
+    survey-requires
     enum-known-surveyed
     enum_told
     refusal-requires

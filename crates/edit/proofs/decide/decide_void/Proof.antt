@@ -1,6 +1,7 @@
--- What the admission or a test refuses is refused; a void in the place of the occurrence that the survey met comes to the rule's void.
+-- What the survey or a test refuses is refused; a void in the place of the occurrence that the survey met comes to the rule's void.
 use mathlib.Core.Path.{◌≡◌, sym, ◌∙◌}
 use native.Mathlib.Omega.{arith}
+use mathlib.Core.Bool.{true}
 use mathlib.Core.Option.{some}
 use mathlib.Core.List.{[]}
 use lib.ListN.{length}
@@ -12,8 +13,8 @@ use Rattle.rules.specs.Edit.{run, to_void}
 use Rattle.laws.proofs.Check.{Admitted}
 use Rattle.laws.proofs.Passed.{tag_range}
 use Rattle.walk.specs.Wanted.{sought}
+use Rattle.walk.proofs.Survey as survey
 use Rattle.walk.proofs.Survey.{occurrence_wanted, sought_at, sought-nothing}
-use Rattle.clean.proofs.Admission as admission
 use Rattle.plan.specs.Plan.{WellFormed}
 use Rattle.edit.specs.Decide.{plan_void}
 use Rattle.edit.proofs.Laws.{decides_refused, decides_plan, asks, void_formed, void-comes}
@@ -21,8 +22,8 @@ use borrow.Author.Rules.{rules}
 use Rattle.edit.proofs.decide.decide_void.Statement.{statement}
 use Rattle.edit.proofs.decide.decide_void.Tie as tie
 
-admit-requires : tie.Need-admit-requires
-admit-requires c κs = search rules
+survey-requires : tie.Need-survey-requires
+survey-requires c κs = search rules
 
 enum-known-surveyed : tie.Need-enum-known-surveyed
 enum-known-surveyed c = search rules
@@ -37,7 +38,7 @@ returns : tie.Need-returns
 returns c =
     let s = c.before.before.before in
     let k = c.before.enum_told.given.1 in
-    decides_refused _ _ _ _ _ (simp (c.refusal.ensures, k, admission.refused _ _ _ _ (sym s.admit.ensures ∙ k)))
+    decides_refused _ _ _ _ _ (simp (c.refusal.ensures, k, survey.refused _ _ _ _ _ (sym s.survey.ensures ∙ k)))
 
 refuses-tag-requires : tie.Need-refuses-tag-requires
 refuses-tag-requires c κs = search rules
@@ -51,8 +52,8 @@ ruled c = let a = (S c).args in run (to_void a.tag a.n) a.area.now a.base
 
 -- what the survey tells of an accepted list
 told : (c : tie.After-surveyed) → let a = (S c).args in let x = c.surveyed.given.0 in
-    admission.Admits a.area.now a.base (record { tag = a.tag; least = 0; n = a.n }) x.0 x.1.0 x.1.1.0
-told c = admission.accepted _ _ _ _ _ _ (sym c.before.before.admit.ensures ∙ c.surveyed.given.1)
+    survey.Accepts true a.area.now a.base (record { tag = a.tag; least = 0; n = a.n }) x.0 x.1.0 x.1.1.0
+told c = survey.accepted _ _ _ _ _ _ _ (sym c.before.before.survey.ensures ∙ c.surveyed.given.1)
 
 returns-2 : tie.Need-returns-2
 unfolding void
@@ -93,7 +94,7 @@ found : (c : tie.After-found) → let a = (S (K c)).args in
 found c = sought_at (occurrence _ _ _) _ (sym (met (T c)) ∙ c.found.given.1)
 
 admitted : (c : tie.After-found) → Admitted (S (K c)).args.area.now (S (K c)).args.base (K c).surveyed.given.0.1.0
-admitted c = admission.admitted _ _ _ _ _ _ (sym (K c).before.before.admit.ensures ∙ (K c).surveyed.given.1)
+admitted c = survey.admitted _ _ _ _ _ _ (sym (K c).before.before.survey.ensures ∙ (K c).surveyed.given.1)
 
 formed : (c : tie.After-found) → let a = (S (K c)).args in let h = (K c).surveyed.given.0.1.0 in
     WellFormed h (length a.area.now) 0 (plan_void h c.found.given.0.0)
@@ -125,7 +126,7 @@ pub decide-void-spec : {M : Type 1} → statement M
 decide-void-spec =
     tie.close
     (tie.spec
-    admit-requires
+    survey-requires
     enum-known-surveyed
     enum_told
     refusal-requires

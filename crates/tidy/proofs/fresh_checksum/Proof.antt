@@ -1,8 +1,8 @@
 -- The exclusive or of all used bytes and byte 4 is that of the others.
 use borrow.Author.Rules.{rules}
-use Rattle.plan.proofs.Afresh.{fresh_summed, fresh_unsummed}
-use Rattle.plan.proofs.fresh.fresh_checksum.Statement.{statement}
-use Rattle.plan.proofs.fresh.fresh_checksum.Tie as tie
+use Rattle.tidy.proofs.Laws.{fresh_summed, fresh_unsummed}
+use Rattle.tidy.proofs.fresh_checksum.Statement.{statement}
+use Rattle.tidy.proofs.fresh_checksum.Tie as tie
 
 xor-part-requires : tie.Need-xor-part-requires
 xor-part-requires c κs = search rules
