@@ -1,4 +1,6 @@
 // Convert: a list of edition 0.9, into another area as a current list with checksums on.
+#![tactic(auto)]
+
 ghost use Rattle.std.specs.Prelude.{◌≡◌, ◌+◌, ◌≤◌, ◌<◌, ◌^◌, length};
 ghost use Rattle.rules.specs.Outcome.{answer, bytes_after};
 ghost use Rattle.rules.specs.Edition09.{edition09, growth, grown_header, converted_bytes, convert as convert_rule};

@@ -1,4 +1,6 @@
 // Create: a new list without entries. Its writing of a header serves the conversion too.
+#![tactic(auto)]
+
 ghost use Rattle.std.specs.Prelude.{◌≡◌, ◌≤◌, length};
 ghost use Rattle.wire.specs.Bytes.{splice};
 ghost use Rattle.rules.specs.Header.{header_size, header_bytes};

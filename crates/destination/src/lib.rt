@@ -1,4 +1,6 @@
 // Where a list is put when it goes into another area: refusals 12 and 14, the new base, and the target's bytes around the list.
+#![tactic(auto)]
+
 ghost use Rattle.std.specs.Prelude.{◌≡◌, ◌+◌, ◌≤◌, ◌<◌, ◌^◌, length};
 ghost use Rattle.rules.specs.Refusals.{refuses_target};
 ghost use Rattle.rules.specs.Relocate.{new_base as new_base_rule, in_target};
@@ -7,7 +9,7 @@ ghost use Rattle.destination.specs.Place.{placed, refusal_of_place};
 use rules::Refusal;
 
 // Where a list goes in a target: so many bytes behind the target's start, or why it does not.
-#[derive(Drop)]
+#[derive(Clone, Copy)]
 pub enum Place {
     At(usize),
     Refused(Refusal),

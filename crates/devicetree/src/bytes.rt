@@ -5,7 +5,7 @@ ghost use Rattle.devicetree.specs.Structure.{Ends};
 ghost use Rattle.devicetree.specs.Decided.{Answers, Decides};
 
 // A place in the data, or that there is none.
-#[derive(Drop)]
+#[derive(Clone, Copy)]
 pub enum Place {
     At(usize),
     Nowhere,

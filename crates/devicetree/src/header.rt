@@ -15,7 +15,7 @@ ghost use Rattle.devicetree.specs.Decided.{Answers};
 use crate::bytes;
 
 // The header's fields that are judged.
-#[derive(Drop)]
+#[derive(Clone, Copy)]
 pub struct Header {
     pub magic: u32,
     pub totalsize: u32,

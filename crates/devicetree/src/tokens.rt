@@ -15,7 +15,7 @@ pub const NOP: u32 = 4;
 pub const END: u32 = 9;
 
 // A token other than NOP and the place behind it, or that there is none.
-#[derive(Drop)]
+#[derive(Clone, Copy)]
 pub enum Next {
     Is(u32, usize),
     Nothing,

@@ -1,1 +1,3 @@
 // Theorems about the written rules, in proofs/. No code.
+
+#![tactic(auto)]

@@ -10,7 +10,7 @@ use devicetree::tokens::Next;
 use devicetree::{bytes, parts, tokens, tree};
 
 // What a search answers: where a property's value stands and how long it is, the place behind what was searched, or that nothing stands there.
-#[derive(Drop)]
+#[derive(Clone, Copy)]
 pub enum Hit {
     Found(usize, usize),
     After(usize),

@@ -1,4 +1,6 @@
 // What an edit will write, decided before any byte changes, and the writing of it. Knows nothing of how an edit decides.
+#![tactic(auto)]
+
 pub mod sum;
 pub mod write;
 
@@ -9,7 +11,7 @@ use rules::Refusal;
 
 // A stretch of entries and the header fields that go with it: final numbers. A void is an entry with tag 0, no data and zeros behind
 // its header.
-#[derive(Drop)]
+#[derive(Clone, Copy)]
 pub struct Plan {
     // What the call answers.
     pub value: u32,
@@ -29,7 +31,7 @@ pub struct Plan {
 }
 
 // What an edit has decided.
-#[derive(Drop)]
+#[derive(Clone, Copy)]
 pub enum Planned {
     Go(Plan),
     Refused(Refusal),

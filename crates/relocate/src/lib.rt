@@ -1,4 +1,6 @@
 // Relocate: the used bytes of a list, into another area.
+#![tactic(auto)]
+
 ghost use Rattle.std.specs.Prelude.{◌≡◌, ◌+◌, ◌≤◌, ◌<◌, ◌^◌, length};
 ghost use Rattle.rules.specs.Outcome.{answer, bytes_after};
 ghost use Rattle.rules.specs.Relocate.{target_bytes};

@@ -5,7 +5,7 @@ ghost use Rattle.rules.specs.Certificate.{certified_answer, refused_answer};
 use crate::Refusal;
 
 // The fields of a certificate. The four floats are patterns of 64 bits here, since a pattern may be no number.
-#[derive(Drop)]
+#[derive(Clone, Copy)]
 pub struct Certificate {
     pub serial: u64,
     pub test: u64,
@@ -26,14 +26,14 @@ impl Certificate {
 }
 
 // The gauge's gain and offset.
-#[derive(Drop)]
+#[derive(Clone, Copy)]
 pub struct Calibration {
     pub gain: f64,
     pub offset: f64,
 }
 
 // The gate that a reading is to pass, with its limits.
-#[derive(Drop)]
+#[derive(Clone, Copy)]
 pub enum Gate {
     Band { low: f64, high: f64 },
     Ceiling { high: f64 },
@@ -50,7 +50,7 @@ impl Gate {
 }
 
 // The answer about a certificate: the reading and whether it passes; the refusal of the list; or the certificate's own refusals, 18 to 20.
-#[derive(Drop)]
+#[derive(Clone, Copy)]
 pub enum Certified {
     Read { reading: f64, pass: bool },
     Refused(Refusal),
@@ -65,7 +65,7 @@ pub enum Certified {
 // The answer in numbers: the refusal's number, 0 where not refused; the pass, 1 or 0; the reading. Where refused both are 0. The place is 0
 // in all but refusal 8.
 #[repr(C)]
-#[derive(Drop)]
+#[derive(Clone, Copy)]
 pub struct CertifiedAnswer {
     pub number: u32,
     pub pass: u32,

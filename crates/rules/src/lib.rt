@@ -1,4 +1,6 @@
 // The declared types of a transfer list and of the answers about it. The written rules are in specs/; nothing here does the work.
+#![tactic(auto)]
+
 pub mod certificate;
 
 ghost use Rattle.std.specs.Prelude.{◌≡◌};
@@ -18,7 +20,7 @@ pub const MAX_ALIGNMENT: u8 = 21;
 pub const MAX_ADDRESS: u64 = 0x1_0000_0000_0000;
 
 // The header of a list, field by field.
-#[derive(Drop)]
+#[derive(Clone, Copy)]
 pub struct Header {
     pub signature: u32,
     pub checksum: u8,
@@ -61,7 +63,7 @@ impl Header {
 }
 
 // An entry as the walk meets it: where it starts, and its header's fields.
-#[derive(Drop)]
+#[derive(Clone, Copy)]
 pub struct Entry {
     pub at: usize,
     pub tag_id: u32,
@@ -70,7 +72,7 @@ pub struct Entry {
 }
 
 // Why a call is turned away.
-#[derive(Drop)]
+#[derive(Clone, Copy)]
 pub enum Refusal {
     Area,
     Short,
@@ -136,7 +138,7 @@ impl Refusal {
 }
 
 // What an accepted check answers.
-#[derive(Drop)]
+#[derive(Clone, Copy)]
 pub struct Facts {
     pub version: u32,
     pub used: u32,
@@ -147,21 +149,21 @@ pub struct Facts {
 }
 
 // The answer of a check.
-#[derive(Drop)]
+#[derive(Clone, Copy)]
 pub enum Checked {
     Accepted(Facts),
     Refused(Refusal),
 }
 
 // The answer of a find: the data's offset and size.
-#[derive(Drop)]
+#[derive(Clone, Copy)]
 pub enum Found {
     At { offset: u32, size: u32 },
     Refused(Refusal),
 }
 
 // The answer of create, of the edits and of the conversion: the total, an offset, the shift or the new used size.
-#[derive(Drop)]
+#[derive(Clone, Copy)]
 pub enum Done {
     Value(u32),
     Refused(Refusal),
@@ -169,7 +171,7 @@ pub enum Done {
 
 // The three answers in numbers: the refusal's number, 0 where accepted; the values, all 0 where refused; and the place, 0 in all but refusal 8.
 #[repr(C)]
-#[derive(Drop)]
+#[derive(Clone, Copy)]
 pub struct CheckAnswer {
     pub number: u32,
     pub version: u32,
@@ -182,7 +184,7 @@ pub struct CheckAnswer {
 }
 
 #[repr(C)]
-#[derive(Drop)]
+#[derive(Clone, Copy)]
 pub struct FindAnswer {
     pub number: u32,
     pub offset: u32,
@@ -191,7 +193,7 @@ pub struct FindAnswer {
 }
 
 #[repr(C)]
-#[derive(Drop)]
+#[derive(Clone, Copy)]
 pub struct DoneAnswer {
     pub number: u32,
     pub value: u32,

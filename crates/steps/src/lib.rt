@@ -1,5 +1,7 @@
 // Request 9's steps: an edit with a journal, or a recovery, of which each call stores at most one byte. The state goes in by value and comes
 // back. Nothing is stored but by `step`; a whole call is a decision and a loop over it.
+#![tactic(auto)]
+
 pub mod advance;
 pub mod begin;
 mod phases;
@@ -16,7 +18,7 @@ use rules::DoneAnswer;
 // Where an edit or a recovery stands: what is stored next, the answer at the end, and the plan of the edit in numbers. A caller hands it back as
 // he got it; a step takes any.
 #[repr(C)]
-#[derive(Drop)]
+#[derive(Clone, Copy)]
 pub struct Steps {
     // The record, and the offset of its word.
     pub index: u64,
@@ -38,7 +40,7 @@ pub struct Steps {
 
 // What a deciding call or a step answers: the state, whether it has ended, and the answer if so.
 #[repr(C)]
-#[derive(Drop)]
+#[derive(Clone, Copy)]
 pub struct Stepped {
     pub state: Steps,
     pub ended: u32,
@@ -46,7 +48,7 @@ pub struct Stepped {
 }
 
 // What a step stores.
-#[derive(Drop)]
+#[derive(Clone, Copy)]
 pub enum Store {
     Nothing,
     Journal { at: usize, value: u8 },
@@ -54,7 +56,7 @@ pub enum Store {
 }
 
 // And the state that it leaves.
-#[derive(Drop)]
+#[derive(Clone, Copy)]
 pub struct Step {
     pub store: Store,
     pub next: Steps,

@@ -1,4 +1,6 @@
 // Refusals 9 and 10: which tags a call takes, and the tag table of data lengths that a known tag may carry.
+#![tactic(auto)]
+
 ghost use Rattle.std.specs.Prelude.{◌≡◌};
 ghost use Rattle.rules.specs.Refusals.{refuses_tag, refuses_tag_add};
 ghost use Rattle.rules.specs.Tags.{refuses_shape};
@@ -6,7 +8,7 @@ ghost use Rattle.rules.specs.Tags.{refuses_shape};
 use rules::certificate::Certificate;
 
 // A tag with the least and the greatest length of its data.
-#[derive(Drop)]
+#[derive(Clone, Copy)]
 pub(crate) struct TagRow {
     pub tag: u32,
     pub least: usize,

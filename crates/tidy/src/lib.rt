@@ -1,4 +1,6 @@
 // Tidy: each run of neighbouring voids becomes one void, its data zero, and those at the end are given back.
+#![tactic(auto)]
+
 ghost use Rattle.std.specs.Prelude.{◌≡◌, ◌≤◌, length};
 ghost use Rattle.rules.specs.Header.{header_of, header_size};
 ghost use Rattle.rules.specs.Entries.{entries_of};

@@ -1,5 +1,7 @@
 // The checksum's exclusive or by itself, for make bench to time: by words, as the library does it, and by single bytes, as it did it before.
 // Not shipped.
+#![tactic(auto)]
+
 ghost use Rattle.std.specs.Prelude.{◌≡◌, ◌-◌, length, take, drop};
 ghost use Rattle.wire.specs.Bytes.{xor};
 

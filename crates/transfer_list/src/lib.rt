@@ -4,6 +4,8 @@
 // conversion is promised to do is `ConvertPromised`, likewise, with what holds of a converted list. The rules of the device tree's
 // functions are relations, each of which settles the answer: `checked-only`, `lookup-only`, `part-only`. Of request 9's calls, `Begins` is what
 // holds of the steps that a call has decided on, and `Journalled` what a whole form is promised to do; a step and a recovery have equations.
+#![tactic(auto)]
+
 ghost use Rattle.std.specs.Prelude.{◌≡◌, ◌+◌, []};
 ghost use Rattle.rules.specs.Check.{check as check_rule, check_answer};
 ghost use Rattle.rules.specs.Find.{find as find_rule, find_answer, find_data, part_offset};

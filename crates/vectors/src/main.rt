@@ -5,6 +5,8 @@
 // the bytes: of a find the data, of create, an edit and a certificate the whole area or target, of two large areas the first 24 bytes; of the
 // exclusive or the start, and the results over 0, 1, 2 .. bytes from there; of a journalled edit, a step and a recovery the area and, behind a
 // stroke, the journal, and of a step whether it has ended.
+#![tactic(auto)]
+
 use rules::certificate::{Certificate, Gate};
 use rules::{CheckAnswer, Done, DoneAnswer, FindAnswer};
 use steps::Stepped;

@@ -18,7 +18,7 @@ use crate::{cursor, header};
 use rules::{Checked, Facts, Header, Refusal};
 
 // The answer of a survey: what the check answers, the header, and the wanted entry.
-#[derive(Drop)]
+#[derive(Clone, Copy)]
 pub enum Surveyed {
     Accepted(Facts, Header, Sought),
     Refused(Refusal),

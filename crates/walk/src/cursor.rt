@@ -11,13 +11,13 @@ use crate::wanted::{Memory, Sought, Wanted};
 use rules::{Entry, Header};
 
 // A place in the list, from which the walk goes on.
-#[derive(Drop)]
+#[derive(Clone, Copy)]
 pub(crate) struct Cursor {
     pub(crate) at: usize,
 }
 
 // What stands at a cursor's place: an entry with the cursor behind it, the end of the list, or an entry that breaks a rule.
-#[derive(Drop)]
+#[derive(Clone, Copy)]
 pub(crate) enum Step {
     Next(Entry, Cursor),
     End,
@@ -25,7 +25,7 @@ pub(crate) enum Step {
 }
 
 // The walk's numbers of live and void entries and the wanted entry, or the place of the first entry that breaks a rule.
-#[derive(Drop)]
+#[derive(Clone, Copy)]
 pub(crate) enum Walked {
     Counts(u32, u32, Sought),
     Broken(u32),

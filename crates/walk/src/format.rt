@@ -5,7 +5,7 @@ ghost use Rattle.walk.specs.Format.{edition_of};
 use rules::Header;
 
 // Which edition a list is of: the current one, source 001's, or edition 0.9, source 000's.
-#[derive(Drop)]
+#[derive(Clone, Copy)]
 pub enum Format {
     Current,
     Edition09,

@@ -13,7 +13,7 @@ use crate::format::Format;
 use rules::{Header, Refusal};
 
 // A header that passed checks 1 to 6, or the refusal.
-#[derive(Drop)]
+#[derive(Clone, Copy)]
 pub(crate) enum Headed {
     Good(Header),
     Refused(Refusal),

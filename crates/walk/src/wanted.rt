@@ -5,7 +5,7 @@ ghost use Rattle.walk.specs.Wanted.{wants as wants_rule, nothing_wanted, forgetf
 use rules::Entry;
 
 // Occurrence n, counted from 0, among the entries with this tag and at least so many bytes of data.
-#[derive(Drop)]
+#[derive(Clone, Copy)]
 pub struct Wanted {
     pub tag: u32,
     pub least: usize,
@@ -13,14 +13,14 @@ pub struct Wanted {
 }
 
 // The entry that was looked for, or that there is none.
-#[derive(Drop)]
+#[derive(Clone, Copy)]
 pub enum Sought {
     At(Entry),
     Nothing,
 }
 
 // How many of the wanted kind are to pass before the wanted one, and that one once it was met.
-#[derive(Drop)]
+#[derive(Clone, Copy)]
 pub(crate) struct Memory {
     left: u64,
     pub(crate) found: Sought,

@@ -1,4 +1,6 @@
 // Numbers, exclusive or, sums, zeros and copies on slices of bytes. Knows nothing of transfer lists.
+#![tactic(auto)]
+
 ghost use Rattle.std.specs.Prelude.{◌≡◌, ◌+◌, ◌*◌, ◌%◌, ◌^◌, ◌<◌, ◌≤◌, length, take, drop, replicate, slice_index};
 ghost use Rattle.wire.specs.Bytes.{field, le_bytes, xor, splice, sum};
 
