@@ -18,6 +18,9 @@ DECLARED = re.compile(r"^\s*(?:(?:abbrev|unfoldable|pub|private|opaque)\s+)*([^\
 STD = set("length take drop append set get_or replicate map sum xor bit_xor fold reverse mod cond eqb leb ltb nil cons".split())
 # types in camel case
 TYPES = {"Ends-here": "EndsHere"}
+
+# std has these names too, and files cite both
+KEPT = {"or-true"}
 # what would fall together otherwise
 SPECIAL = {
     n: n.replace("-", "_") + "_lem"
@@ -73,6 +76,8 @@ def main():
     known = specs | STD
     turn = {}
     for n in names:
+        if n in KEPT:
+            continue
         if n in TYPES:
             turn[n] = TYPES[n]
         elif re.match(r"[a-z]", n):

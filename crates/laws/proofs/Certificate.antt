@@ -5,7 +5,7 @@ use mathlib.Core.Path.{◌≡◌, refl, sym, ap, subst, ◌∙◌}
 use Prim.Native.Nat.{ℕ, zero, suc, ◌+◌, ◌-◌, ◌*◌, ◌^◌, ◌≤◌, ◌<◌}
 use native.Mathlib.Omega.{arith}
 use native.Mathlib.Nat.{lt_of_not-le, lt_of_mul-lt-mul_right, mul-lt-mul_of_pos_right, mul-le-mul_right, mul_assoc, mul-pos, mul-sub, mul-one}
-use mathlib.Core.Bool.{Bool, true, false, not, cond, or_true, true≢false}
+use mathlib.Core.Bool.{Bool, true, false, not, cond, or-true, true≢false}
 use mathlib.Core.List.{List, [], ◌∷◌}
 use lib.IntN.{ℤ, pos, negsuc}
 use lib.Dec.{T, ltb, eqb, leb→le, ltb→lt}
@@ -170,7 +170,7 @@ unfolding refuses_contents gauge_reading of_int
 reading_plain c ok k =
     let gain = float c.gain in
     let counts = of_int binary64 (pos c.counts) in
-    let g : gain ≡ signed false gain = above_plain gain (λ p. true≢false (rw (p, or_true) at ok)) in
+    let g : gain ≡ signed false gain = above_plain gain (λ p. true≢false (rw (p, or-true) at ok)) in
     let n : counts ≡ signed false counts = sym (signed_round binary64 false false c.counts 1) in
     add_plain binary64 (mul binary64 gain counts) (float c.offset) (mul-fits binary64 gain counts) (of_bits-fits binary64 c.offset)
     (rw (g, n, signed_mul binary64 gain counts) at k)
@@ -226,5 +226,5 @@ unfolding refuses_contents gauge_reading
 reading_bits a base serial test x p h =
     let s = read_sound a base serial test x p h in
     let fitting : T (fits binary64 x) = subst (λ (y : Float). T (fits binary64 y)) s.2 (add-fits binary64 _ (float s.0.offset)) in
-    let number : T (not (is_nan x)) = finite_number x (λ q. true≢false (rw (s.2, q, or_true) at s.1)) in
+    let number : T (not (is_nan x)) = finite_number x (λ q. true≢false (rw (s.2, q, or-true) at s.1)) in
     (of_bits-to_bits binary64 x fitting, λ n l q. sym (rw q at (to_bits-of_bits binary64 n l (rw q number))))

@@ -65,13 +65,13 @@ can s len n h =
 padding_test : (n : ℕ) → n ≡ void_span n → (eqb n 0 || leb 8 n) ≡ true
 padding_test n h = go (ltb n 8) refl (eqb n 0)
   where
-    or_true : (b : Bool) → (b || true) ≡ true
-    or_true true = refl
-    or_true false = refl
+    or-true : (b : Bool) → (b || true) ≡ true
+    or-true true = refl
+    or-true false = refl
 
     go : (a : Bool) → ltb n 8 ≡ a → (b : Bool) → (eqb n 0 || leb 8 n) ≡ true
     go true e b = let z : n ≡ 0 = rw e at h in rw (eq-eqb n 0 z) refl
-    go false e b = rw (le-leb 8 n (ltb-false n 8 e)) (or_true (eqb n 0))
+    go false e b = rw (le-leb 8 n (ltb-false n 8 e)) (or-true (eqb n 0))
 
 -- a plan that can be written passes the test
 pub can_carry : (p : Plan) (len n : ℕ) → Writable p len n → p.checksum < 256 → p.alignment < 256 → can_write (carrying p) len n ≡ true

@@ -1,7 +1,7 @@
 -- The two early answers are the two sums that could not be made; what is left is the rule itself.
 use Prim.Native.Nat.{◌+◌}
 use native.Mathlib.Omega.{arith}
-use mathlib.Core.Bool.{or_true, or-false}
+use mathlib.Core.Bool.{or-true, or-false}
 use borrow.Author.Tests.{lt-ltb, le-ltb}
 use Rattle.rules.specs.Area.{max_address}
 use borrow.Author.Rules.{rules}
@@ -9,7 +9,7 @@ use Rattle.destination.proofs.refuses_target.Statement.{statement}
 use Rattle.destination.proofs.refuses_target.Tie as tie
 
 returns : tie.Need-returns
-returns c = simp (lt-ltb _ _ c.if1.true, or_true)
+returns c = simp (lt-ltb _ _ c.if1.true, or-true)
 
 returns-2 : tie.Need-returns-2
 returns-2 c =
