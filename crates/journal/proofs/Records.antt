@@ -1,5 +1,5 @@
 -- What the journal's stores leave: no commit before the last of them, and then the words and the commit.
-use mathlib.Core.Path.{◌≡◌, refl, ap, ap₂, ◌∙◌}
+use mathlib.Core.Path.{◌≡◌, refl, sym, subst, ap, ap₂, ◌∙◌}
 use Prim.Native.Nat.{ℕ, zero, suc, ◌+◌, ◌*◌, ◌%◌, ◌^◌, ◌≤◌, ◌<◌}
 use native.Mathlib.Omega.{arith}
 use native.Mathlib.Nat.{add-zero}
@@ -251,7 +251,7 @@ journal_committed len (w ∷ ws) i m f b h =
     let z : List ℕ = (store_all (journal_stores (i + 1) ws) m').journal in
     let n : length m'.journal ≡ length m.journal = length-journal ss m in
     let same : (p : ℕ) → p < 16 * (i + 1) → get_or z p 0 ≡ get_or m'.journal p 0 = journal-below len ws (i + 1) m' f.1 (rw n (omega arith)) in
-    rw (stores-append ss (journal_stores (i + 1) ws) m) (
+    subst (λ (x : Memory). Committed x.journal i (w ∷ ws)) (sym (stores-append ss (journal_stores (i + 1) ws) m)) (
       same (16 * i) (omega arith) ∙ after-kind i 1 w.offset w.bytes m f.0.eight (omega arith),
       ap₂ {C = Word} (λ (o : ℕ) (b : List ℕ). record { offset = o; bytes = b })
           (field_cong z m'.journal (16 * i + 4) (16 * i + 4) 4 (λ k g. same (16 * i + 4 + k) (omega arith)))

@@ -1,5 +1,5 @@
 -- What the walk tells of the wanted entry is of the list's own entries, none where the walk is broken.
-use Rattle.std.proofs.Common.{◌≡◌, ℕ, List, sym, refl, ap, ◌∙◌, rules}
+use Rattle.std.proofs.Common.{◌≡◌, ℕ, List, sym, refl, ap, ◌∙◌}
 use Rattle.rules.specs.declared.Header.{Header}
 use Rattle.rules.specs.Header.{header_of}
 use Rattle.rules.specs.Entries.{Walk, entries, broken, walk_of, walk, seen, entries_of}
@@ -9,8 +9,7 @@ use Rattle.walk.specs.declared.wanted.Sought.TheVariants.{Nothing}
 use Rattle.walk.specs.declared.cursor.Walked.{Walked}
 use Rattle.walk.specs.declared.cursor.Walked.TheVariants.{Counts, Broken}
 use Rattle.walk.specs.Wanted.{wanted_in, wanted_of, sought, told}
-use Rattle.walk.proofs.check.seek.Statement.{statement}
-use Rattle.walk.proofs.check.seek.Tie as tie
+use Rattle.walk.proofs.check.seek.Goals as goal
 
 -- the wanted entry that a walk tells
 abbrev found_in : Walked → Sought
@@ -27,24 +26,10 @@ found-own : (w : Wanted) (a : List ℕ) (h : Header) → h ≡ header_of a → f
 unfolding walk entries_of
 found-own w a h e = rw e (found-told w (walk_of (header_of a) a))
 
-walk-requires : tie.Need-walk-requires
-walk-requires c κs = search rules
+pub returns-in-Counts : goal.returns-in-Counts
+returns-in-Counts c =
+    ap found_in (sym c.in-Counts.is ∙ c.walk.ensures) ∙ found-own _ _ _ c.requires.0
 
-enum-known-found : tie.Need-enum-known-found
-enum-known-found c = search rules
-
-enum_told : tie.Need-enum-told
-enum_told c = search rules
-
-returns : tie.Need-returns
-returns c =
-    let k = c.before.before.before in
-    ap found_in (sym c.before.found.given.1 ∙ k.walk.ensures) ∙ found-own _ _ _ k.before.before.requires.0
-
-returns-2 : tie.Need-returns-2
-returns-2 c =
-    let k = c.before.before in
-    ap found_in (sym c.enum_told.given.1 ∙ k.walk.ensures) ∙ found-own _ _ _ k.before.before.requires.0
-
-pub seek-spec : {M : Type 1} → statement M
-seek-spec = tie.close (tie.spec walk-requires enum-known-found enum_told returns returns-2)
+pub returns-in-Broken : goal.returns-in-Broken
+returns-in-Broken c =
+    ap found_in (sym c.in-Broken.is ∙ c.walk.ensures) ∙ found-own _ _ _ c.requires.0

@@ -1,23 +1,10 @@
 -- The eight bytes as one number: its low three bytes are the tag, the next is the header size, and the high four are the data size.
-use Rattle.std.proofs.Common.{◌≡◌, ℕ, ◌+◌, ◌*◌, ◌/◌, ◌%◌, List, ap, ◌∙◌, add_assoc, arith, rules}
+use Rattle.std.proofs.Common.{◌≡◌, ℕ, ◌+◌, ◌*◌, ◌/◌, ◌%◌, List, ap, ◌∙◌, add_assoc, arith}
 use Rattle.wire.specs.Bytes.{field}
 use Rattle.wire.proofs.Range.{Bytes}
 use Rattle.wire.proofs.Field.{field_split, field_lt}
 use Rattle.rules.specs.Entries.{entry_at}
-use Rattle.walk.proofs.cursor.entry_at.Statement.{statement}
-use Rattle.walk.proofs.cursor.entry_at.Tie as tie
-
-read8-requires : tie.Need-read8-requires
-read8-requires c κs = search rules
-
-cast-t5 : tie.Need-overflow-cast-t5
-cast-t5 c = search rules
-
-cast-t8 : tie.Need-overflow-cast-t8
-cast-t8 c = search rules
-
-cast-t10 : tie.Need-overflow-cast-t10
-cast-t10 c = search rules
+use Rattle.walk.proofs.cursor.entry_at.Goals as goal
 
 -- the number of the eight bytes, part by part
 record Parts (a : List ℕ) (at : ℕ) : Type 0 where
@@ -34,12 +21,9 @@ parts a at b =
     let h = field_lt a (at + 3) 1 b in
     record { tag = omega arith; header = omega arith; size = omega arith }
 
-returns : tie.Need-returns
+pub returns : goal.returns
 unfolding entry_at
 returns c =
-    let a = c.before.before.args in
-    let p : Parts a.a.now a.at = parts a.a.now a.at (λ i. omega (arith, c.before.shared-slice-known.given i)) in
-    rw (c.read8.ensures, p.tag, p.header, p.size)
-
-pub entry-at-spec : {M : Type 1} → statement M
-entry-at-spec = tie.close (tie.spec read8-requires cast-t5 cast-t8 cast-t10 returns)
+    let a = c.args in
+    let p : Parts a.a.now a.at = parts a.a.now a.at (λ i. omega (arith, c.type_inv.a i)) in
+    rw (c.read8-w.ensures, p.tag, p.header, p.size)

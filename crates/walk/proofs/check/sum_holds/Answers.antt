@@ -1,5 +1,5 @@
 -- The sum of the other bytes is that of all of them minus the checksum byte, modulo 256.
-use Rattle.std.proofs.Common.{◌≡◌, ℕ, suc, ◌+◌, ◌%◌, ◌<◌, ◌≤◌, List, ◌∷◌, length, get_or, take, drop, ap, arith, length-take-le, get_or-take, rules}
+use Rattle.std.proofs.Common.{◌≡◌, ℕ, suc, ◌+◌, ◌%◌, ◌<◌, ◌≤◌, List, ◌∷◌, length, get_or, take, drop, ap, arith, length-take-le, get_or-take}
 use lib.Seq.{split_at}
 use Rattle.wire.specs.Bytes.{field, sum}
 use Rattle.wire.proofs.Sum.{sum-append}
@@ -7,8 +7,7 @@ use Rattle.rules.specs.declared.Header.{Header}
 use Rattle.rules.specs.Header.{header_of}
 use Rattle.rules.specs.Checksum.{without}
 use Rattle.rules.specs.Edition09.{sum_holds}
-use Rattle.walk.proofs.check.sum_holds.Statement.{statement}
-use Rattle.walk.proofs.check.sum_holds.Tie as tie
+use Rattle.walk.proofs.check.sum_holds.Goals as goal
 
 -- the sum without a byte, and the byte
 sum-without : (l : List ℕ) (i : ℕ) → i < length l → sum (without i l) + get_or l i 0 ≡ sum l
@@ -30,27 +29,12 @@ others a n c all r low high e p q byte =
     let l : length (take n a) ≡ n = length-take-le n a high in
     omega (arith, sum-without (take n a) 4 (omega arith), checksum-byte a n low)
 
-cast-sum-part : tie.Need-overflow-cast-sum-part
-cast-sum-part c = search rules
-
-sum-part-requires : tie.Need-sum-part-requires
-sum-part-requires c κs = search rules
-
-wrapping-sub-u8-requires : tie.Need-wrapping-sub-u8-requires
-wrapping-sub-u8-requires c κs = search rules
-
-returns : tie.Need-returns
+pub returns : goal.returns
 unfolding sum_holds
 returns c =
-    let s = c.before.before.before.before in
-    let h = s.args.h in
-    let e = ap (λ (x : Header). x.checksum) s.requires.0 in
+    let h = c.args.h in
+    let e = ap (λ (x : Header). x.checksum) c.requires.0 in
     let o =
-    others s.args.a.now h.used_size h.checksum _ c.wrapping-sub-u8.result (omega arith) s.requires.2 e c.before.sum-part.ensures
-    c.wrapping-sub-u8.ensures (omega arith) in
-    rw (o, ← s.requires.0)
-
-pub sum-holds-spec : {M : Type 1} → statement M
-sum-holds-spec =
-    tie.close
-    (tie.spec cast-sum-part sum-part-requires wrapping-sub-u8-requires returns)
+    others c.args.a.now h.used_size h.checksum _ c.wrapping_sub_u8.result (omega arith) c.requires.2 e c.sum_part-all.ensures
+    c.wrapping_sub_u8.ensures (omega arith) in
+    rw (o, ← c.requires.0)
