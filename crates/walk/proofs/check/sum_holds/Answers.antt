@@ -36,5 +36,5 @@ returns c =
     let e = ap (λ (x : Header). x.checksum) c.requires.0 in
     let o =
     others c.args.a.now h.used_size h.checksum _ c.wrapping_sub_u8.result (omega arith) c.requires.2 e c.sum_part-all.ensures
-    c.wrapping_sub_u8.ensures (omega arith) in
+    c.wrapping_sub_u8.ensures.value (omega arith) in
     rw (o, ← c.requires.0)

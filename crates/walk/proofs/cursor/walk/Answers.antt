@@ -10,21 +10,17 @@ loop-e-init c = rw (c.first_entry.ensures, c.new-m.ensures) (search rules, searc
 pub overflow_add-voids : goal.overflow_add-voids
 overflow_add-voids c = omega (arith, c.before.before.before.before.before.before.before.before.before.before)
 
-abbrev S : goal.In-Next-2 invariant-loop decreases-loop → goal.Start invariant-loop decreases-loop
-S c = c.before.before.before.before.before.before.before.before
-
--- the walk goes on behind the entry
-goes : (c : goal.In-Next-2 invariant-loop decreases-loop) → let h = (S c).args.h in let x = c.e-1.given.0 in
-    Tells h.version (S c).args.a.now h.used_size c.loop-e.c.at (Next x.0 x.1.0)
-goes c =
-    step_tells _ _ _ _ _ c.loop-e.invariant.0 (sym c.step.ensures ∙ c.in-Next.is)
-
 pub loop-e-smaller-then-e-eq0 : goal.loop-e-smaller-then-e-eq0
-loop-e-smaller-then-e-eq0 c = let t = goes c.before.before.before.before in omega arith
+loop-e-smaller-then-e-eq0 c =
+    let goes : let h = c.args.h in Tells h.version c.args.a.now h.used_size c.loop-e.c.at (Next c.in-Next.e c.in-Next.d)
+      = step_tells _ _ _ _ _ c.loop-e.invariant.0 (sym c.step.ensures ∙ c.in-Next.is) in
+    let t = goes in omega arith
 
 pub loop-e-preserved-then-e-eq0 : goal.loop-e-preserved-then-e-eq0
 loop-e-preserved-then-e-eq0 c =
-    let t = goes c.before.before.before.before in
+    let goes : let h = c.args.h in Tells h.version c.args.a.now h.used_size c.loop-e.c.at (Next c.in-Next.e c.in-Next.d)
+      = step_tells _ _ _ _ _ c.loop-e.invariant.0 (sym c.step.ensures ∙ c.in-Next.is) in
+    let t = goes in
     let l = c.loop-e in (
       t.1,
       omega arith,
@@ -35,11 +31,16 @@ pub overflow_add-live : goal.overflow_add-live
 overflow_add-live c = omega (arith, c.before.before.before.before.before.before.before.before.before.before)
 
 pub loop-e-smaller : goal.loop-e-smaller
-loop-e-smaller c = let t = goes c.before.before.before.before in omega arith
+loop-e-smaller c =
+    let goes : let h = c.args.h in Tells h.version c.args.a.now h.used_size c.loop-e.c.at (Next c.in-Next.e c.in-Next.d)
+      = step_tells _ _ _ _ _ c.loop-e.invariant.0 (sym c.step.ensures ∙ c.in-Next.is) in
+    let t = goes in omega arith
 
 pub loop-e-preserved : goal.loop-e-preserved
 loop-e-preserved c =
-    let t = goes c.before.before.before.before in
+    let goes : let h = c.args.h in Tells h.version c.args.a.now h.used_size c.loop-e.c.at (Next c.in-Next.e c.in-Next.d)
+      = step_tells _ _ _ _ _ c.loop-e.invariant.0 (sym c.step.ensures ∙ c.in-Next.is) in
+    let t = goes in
     let l = c.loop-e in (
       t.1,
       omega arith,

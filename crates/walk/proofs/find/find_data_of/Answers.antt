@@ -10,10 +10,10 @@ pub returns-in_default : goal.returns-in_default
 unfolding find_data_of
 returns-in_default c =
     let r = sym c.find_of.ensures ∙ c.in_default.is in
-    (simp r, (refl, rw r (omega arith)))
+    record { result_value = simp r; ref_ptr_value = refl; ref_ptr_value_2 = rw r (omega arith) }
 
-pub UNKNOWN-slice-bounds-result-end-2 : goal.UNKNOWN-slice-bounds-result-end-2
-UNKNOWN-slice-bounds-result-end-2 c =
+pub slice_bounds-result-end-2 : goal.slice_bounds-result-end-2
+slice_bounds-result-end-2 c =
     let w = find-within _ _ _ _ _ _ _ (sym c.find_of.ensures ∙ c.in-At.is) in
     omega arith
 
@@ -21,4 +21,4 @@ pub returns : goal.returns
 unfolding find_data_of
 returns c =
     let r = sym c.find_of.ensures ∙ c.in-At.is in
-    (rw (r, add-sub_cancel_left), (refl, rw r (omega arith)))
+    record { result_value = rw (r, add-sub_cancel_left); ref_ptr_value = refl; ref_ptr_value_2 = rw r (omega arith) }
