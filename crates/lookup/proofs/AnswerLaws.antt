@@ -160,6 +160,7 @@ inside-within c nothing = nothing
 inside-within c (more h i) = more h (inside-within c i)
 
 inside-first : {P : Item → Type 0} {e o z : ℕ} {xs : List Item} → Inside e xs → First P o z xs → o + z ≤ e
+inside-first nothing l = elim l [ ]
 inside-first (more h i) (here a b p) = omega arith
 inside-first (more h i) (later f l) = inside-first i l
 

@@ -1,5 +1,4 @@
 -- No zero byte stands from the place up to where the loop is, so the one that it stops at is the first.
-use Prim.Native.Nat.{◌-◌}
 use native.Mathlib.Omega.{arith}
 use Rattle.devicetree.proofs.Deciding.{one_more, none_yet}
 use Rattle.devicetree.proofs.PartLaws.{ends_found, ends-none}

@@ -1,5 +1,4 @@
 -- Zero bytes stand from the place up to where the loop is; one that is not zero refutes the rest.
-use Prim.Native.Nat.{◌-◌}
 use native.Mathlib.Omega.{arith}
 use Rattle.devicetree.specs.Decided.{yes, no}
 use Rattle.devicetree.proofs.Deciding.{one_more, none_yet}

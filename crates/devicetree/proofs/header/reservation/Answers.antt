@@ -1,5 +1,4 @@
 -- A zero pair ends the block from the place on exactly where it ends that from where the loop is.
-use Prim.Native.Nat.{◌-◌}
 use native.Mathlib.Omega.{arith}
 use Rattle.devicetree.specs.Header.{last, pair}
 use Rattle.devicetree.specs.Decided.{yes, no}

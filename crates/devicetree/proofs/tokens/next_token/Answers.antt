@@ -1,5 +1,4 @@
 -- Only NOPs stand from the place up to where the loop is, so the first other number is the token.
-use Prim.Native.Nat.{◌-◌}
 use mathlib.Core.Path.{sym, ◌∙◌}
 use native.Mathlib.Omega.{arith}
 use Rattle.devicetree.proofs.TokenLaws.{skipped_none, skipped_more, token_found, token_none}

@@ -5,8 +5,8 @@ use native.Mathlib.Nat.{add-sub_cancel_left}
 use Rattle.devicetree.proofs.TreeLaws.{order}
 use Rattle.devicetree.proofs.header.Header.strings.Goals as goal
 
-pub UNKNOWN-slice-bounds-result-end : goal.UNKNOWN-slice-bounds-result-end
-UNKNOWN-slice-bounds-result-end c =
+pub slice_bounds-result-end : goal.slice_bounds-result-end
+slice_bounds-result-end c =
     let a = c.args in
     let o = order a.self (length a.d.now) c.requires in
     let t = o.strings in
