@@ -1,0 +1,9 @@
+-- What begins as the rules say comes, by its steps, to what they say.
+use Rattle.journalled.proofs.Laws.{journalled-is}
+use Rattle.rules.specs.Edit.{to_void}
+use Rattle.journalled.proofs.forms.void.Goals as goal
+
+pub returns : goal.returns
+returns c =
+    let s = c.void-s.ensures in
+    journalled-is (to_void _ _) _ _ _ _ _ s.value s.begins c.finish.ensures
