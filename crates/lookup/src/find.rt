@@ -64,7 +64,7 @@ pub fn find(data: &[u8], path: &[u8], name: &[u8]) -> FindAnswer
 
 // The value itself, as a part of the caller's data; the empty part at its start where find refuses.
 pub fn find_data<'a>(data: &'a [u8], path: &[u8], name: &[u8]) -> &'a [u8]
-    ensures ref_ptr_value { result.ref_ptr.0 ≡ «data».entry.ref_ptr.0 }
+    ensures same_memory { result.ref_ptr.0 ≡ «data».entry.ref_ptr.0 }
     ensures lookup_part { LookupPart «data».now path.now name.now «data».entry.ref_ptr.1 result.now result.ref_ptr.1 }
 {
     let found = find(data, path, name);

@@ -24,7 +24,7 @@ pub fn finish(from: Steps, area: &mut [u8], data: &[u8], journal: &mut [u8]) -> 
 // Recovers what a cut has left: a committed edit is made whole, and the journal is cleared.
 pub fn recover(area: &mut [u8], journal: &mut [u8]) -> DoneAnswer
     ensures area_after { ended result (memory journal.new area.new) ≡ recovered (memory journal.old area.old) }
-    ensures area_after_2 { ended result (memory journal.new area.new)
+    ensures by_steps { ended result (memory journal.new area.new)
         ≡ to_end [] (recover_start (memory journal.old area.old)) (memory journal.old area.old) }
 {
     let s = begin::recover_start(area, journal);

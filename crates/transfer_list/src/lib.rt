@@ -55,9 +55,9 @@ pub extern "C" fn tl_find(area: &[u8], base: u64, tag: u32, n: u64) -> FindAnswe
 // The data itself, as a part of the caller's area; the empty part where find refuses. C has no such result: there the header's tl_data
 // makes a pointer of tl_find's answer.
 pub fn tl_find_data(area: &[u8], base: u64, tag: u32, n: u64) -> &[u8]
-    ensures result_value { result.now ≡ find_data area.now base tag n }
-    ensures ref_ptr_value { result.ref_ptr.0 ≡ area.entry.ref_ptr.0 }
-    ensures ref_ptr_value_2 { result.ref_ptr.1 ≡ area.entry.ref_ptr.1 + part_offset (find_rule area.now base tag n) }
+    ensures value { result.now ≡ find_data area.now base tag n }
+    ensures same_memory { result.ref_ptr.0 ≡ area.entry.ref_ptr.0 }
+    ensures at_offset { result.ref_ptr.1 ≡ area.entry.ref_ptr.1 + part_offset (find_rule area.now base tag n) }
 {
     find::find_data(area, base, tag, n)
 }
@@ -138,9 +138,9 @@ pub extern "C" fn tl09_find(area: &[u8], base: u64, tag: u32, n: u64) -> FindAns
 
 // The data itself, as a part of the caller's area; the empty part where tl09_find refuses.
 pub fn tl09_find_data(area: &[u8], base: u64, tag: u32, n: u64) -> &[u8]
-    ensures result_value { result.now ≡ find_data09 area.now base tag n }
-    ensures ref_ptr_value { result.ref_ptr.0 ≡ area.entry.ref_ptr.0 }
-    ensures ref_ptr_value_2 { result.ref_ptr.1 ≡ area.entry.ref_ptr.1 + part_offset (find09 area.now base tag n) }
+    ensures value { result.now ≡ find_data09 area.now base tag n }
+    ensures same_memory { result.ref_ptr.0 ≡ area.entry.ref_ptr.0 }
+    ensures at_offset { result.ref_ptr.1 ≡ area.entry.ref_ptr.1 + part_offset (find09 area.now base tag n) }
 {
     find::find_data_of(Format::Edition09, area, base, tag, n)
 }
@@ -192,7 +192,7 @@ pub extern "C" fn tl_fdt_find(data: &[u8], path: &[u8], name: &[u8]) -> FindAnsw
 
 // The value itself, as a part of the caller's data; the empty part at its start where the lookup refuses.
 pub fn tl_fdt_find_data<'a>(data: &'a [u8], path: &[u8], name: &[u8]) -> &'a [u8]
-    ensures ref_ptr_value { result.ref_ptr.0 ≡ «data».entry.ref_ptr.0 }
+    ensures same_memory { result.ref_ptr.0 ≡ «data».entry.ref_ptr.0 }
     ensures lookup_part { LookupPart «data».now path.now name.now «data».entry.ref_ptr.1 result.now result.ref_ptr.1 }
 {
     lookup::find::find_data(data, path, name)
@@ -252,7 +252,7 @@ pub extern "C" fn tl_void_journalled(
 #[unsafe(no_mangle)]
 pub extern "C" fn tl_recover(area: &mut [u8], journal: &mut [u8]) -> DoneAnswer
     ensures area_after { ended result (memory journal.new area.new) ≡ recovered (memory journal.old area.old) }
-    ensures area_after_2 { ended result (memory journal.new area.new)
+    ensures by_steps { ended result (memory journal.new area.new)
         ≡ to_end [] (recover_start (memory journal.old area.old)) (memory journal.old area.old) }
 {
     whole::recover(area, journal)

@@ -38,9 +38,9 @@ pub fn find(area: &[u8], base: u64, tag: u32, n: u64) -> Found
 
 // The data itself, as a part of the caller's area; the empty part where find refuses.
 pub fn find_data_of(format: Format, area: &[u8], base: u64, tag: u32, n: u64) -> &[u8]
-    ensures result_value { result.now ≡ find_data_of (edition_of format) area.now base tag n }
-    ensures ref_ptr_value { result.ref_ptr.0 ≡ area.entry.ref_ptr.0 }
-    ensures ref_ptr_value_2 { result.ref_ptr.1 ≡ area.entry.ref_ptr.1 + part_offset (find_of (edition_of format) area.now base tag n) }
+    ensures value { result.now ≡ find_data_of (edition_of format) area.now base tag n }
+    ensures same_memory { result.ref_ptr.0 ≡ area.entry.ref_ptr.0 }
+    ensures at_offset { result.ref_ptr.1 ≡ area.entry.ref_ptr.1 + part_offset (find_of (edition_of format) area.now base tag n) }
 {
     let Found::At { offset, size } = find_of(format, area, base, tag, n) else {
         return &area[0..0];
@@ -52,9 +52,9 @@ pub fn find_data_of(format: Format, area: &[u8], base: u64, tag: u32, n: u64) ->
 
 // The same in a current list.
 pub fn find_data(area: &[u8], base: u64, tag: u32, n: u64) -> &[u8]
-    ensures result_value { result.now ≡ find_data area.now base tag n }
-    ensures ref_ptr_value { result.ref_ptr.0 ≡ area.entry.ref_ptr.0 }
-    ensures ref_ptr_value_2 { result.ref_ptr.1 ≡ area.entry.ref_ptr.1 + part_offset (find_rule area.now base tag n) }
+    ensures value { result.now ≡ find_data area.now base tag n }
+    ensures same_memory { result.ref_ptr.0 ≡ area.entry.ref_ptr.0 }
+    ensures at_offset { result.ref_ptr.1 ≡ area.entry.ref_ptr.1 + part_offset (find_rule area.now base tag n) }
 {
     find_data_of(Format::Current, area, base, tag, n)
 }

@@ -12,6 +12,6 @@ slice_bounds-result-end c = let i = lookup_within c.find-found.ensures in search
 pub returns : goal.returns
 returns c =
     let found = c.find-found in record {
-      ref_ptr_value = refl;
+      same_memory = refl;
       lookup_part = record { answer = found.result; is = found.ensures; contents = simp add-sub_cancel_left; place = omega arith };
     }

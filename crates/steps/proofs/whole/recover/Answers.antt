@@ -12,4 +12,4 @@ returns c =
     let a = c.args in
     let m = memory a.journal.now a.area.now in
     let e = c.finish.ensures ∙ ap (λ (s : Steps). to_end [] s m) c.recover_start-s.ensures.value in
-    record { area_after = e ∙ recover_is [] m; area_after_2 = e }
+    record { area_after = e ∙ recover_is [] m; by_steps = e }

@@ -10,7 +10,7 @@ pub returns-in_default : goal.returns-in_default
 unfolding find_data_of
 returns-in_default c =
     let r = sym c.find_of.ensures ∙ c.in_default.is in
-    record { result_value = simp r; ref_ptr_value = refl; ref_ptr_value_2 = rw r (omega arith) }
+    record { value = simp r; same_memory = refl; at_offset = rw r (omega arith) }
 
 pub slice_bounds-result-end-2 : goal.slice_bounds-result-end-2
 slice_bounds-result-end-2 c =
@@ -21,4 +21,4 @@ pub returns : goal.returns
 unfolding find_data_of
 returns c =
     let r = sym c.find_of.ensures ∙ c.in-At.is in
-    record { result_value = rw (r, add-sub_cancel_left); ref_ptr_value = refl; ref_ptr_value_2 = rw r (omega arith) }
+    record { value = rw (r, add-sub_cancel_left); same_memory = refl; at_offset = rw r (omega arith) }

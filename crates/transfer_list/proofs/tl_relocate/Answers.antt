@@ -1,0 +1,11 @@
+-- The answer in numbers of what `relocate` answers, and the bytes that it leaves; demand 3 follows from the two.
+use mathlib.Core.Path.{ap, ◌∙◌}
+use Rattle.rules.specs.Outcome.{done_answer}
+use Rattle.rules.specs.Edit.{to_relocate}
+use Rattle.demand3.proofs.Answered.{promised}
+use Rattle.transfer_list.proofs.tl_relocate.Goals as goal
+
+pub returns : goal.returns
+returns c =
+    let p = c.numbers.ensures ∙ ap done_answer c.relocate.ensures.value in
+    promised (to_relocate _ _) _ _ _ _ p c.relocate.ensures.target_after
