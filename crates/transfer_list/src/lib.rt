@@ -1,4 +1,4 @@
-// The functions that are shipped: for C, and find's second forms for Rattle. Each is thin and has the whole statement: no requires, an
+// The functions that are shipped, for Rattle; `transfer_list_c` exports them to C, but for find's second forms. Each is thin and has the whole statement: no requires, an
 // equation for the answer and one for each buffer that is lent for writing. What an edit is promised to do is one record, `Promised`:
 // its answer is that of the written rules, so is every lent byte afterwards, and where the number is 0 all of demand 3 holds. What a
 // conversion is promised to do is `ConvertPromised`, likewise, with what holds of a converted list. The rules of the device tree's
@@ -37,16 +37,14 @@ use walk::format::Format;
 use walk::{check, find};
 
 // Checks the list in area, which stands at base.
-#[unsafe(no_mangle)]
-pub extern "C" fn tl_check(area: &[u8], base: u64) -> CheckAnswer
+pub fn tl_check(area: &[u8], base: u64) -> CheckAnswer
     ensures { result ≡ check_answer (check_rule area.now base) }
 {
     check::check(area, base).numbers()
 }
 
 // Finds the data of occurrence n of a tag.
-#[unsafe(no_mangle)]
-pub extern "C" fn tl_find(area: &[u8], base: u64, tag: u32, n: u64) -> FindAnswer
+pub fn tl_find(area: &[u8], base: u64, tag: u32, n: u64) -> FindAnswer
     ensures { result ≡ find_answer (find_rule area.now base tag n) }
 {
     find::find(area, base, tag, n).numbers()
@@ -63,8 +61,7 @@ pub fn tl_find_data(area: &[u8], base: u64, tag: u32, n: u64) -> &[u8]
 }
 
 // Writes a new list without entries. Answers the total.
-#[unsafe(no_mangle)]
-pub extern "C" fn tl_create(area: &mut [u8], base: u64, has_checksum: bool) -> DoneAnswer
+pub fn tl_create(area: &mut [u8], base: u64, has_checksum: bool) -> DoneAnswer
     ensures value { result ≡ done_answer (answer (create_rule area.old base has_checksum)) }
     ensures area_after { area.new ≡ bytes_after area.old (create_rule area.old base has_checksum) }
 {
@@ -72,8 +69,7 @@ pub extern "C" fn tl_create(area: &mut [u8], base: u64, has_checksum: bool) -> D
 }
 
 // Adds an entry. Answers the new data's offset.
-#[unsafe(no_mangle)]
-pub extern "C" fn tl_add(
+pub fn tl_add(
     area: &mut [u8],
     base: u64,
     tag: u32,
@@ -86,8 +82,7 @@ pub extern "C" fn tl_add(
 }
 
 // Adds an entry whose data address is a multiple of 2^exponent. Answers the new data's offset.
-#[unsafe(no_mangle)]
-pub extern "C" fn tl_add_aligned(
+pub fn tl_add_aligned(
     area: &mut [u8],
     base: u64,
     tag: u32,
@@ -100,16 +95,14 @@ pub extern "C" fn tl_add_aligned(
 }
 
 // Turns occurrence n of a tag into a void. Answers the voided entry's offset.
-#[unsafe(no_mangle)]
-pub extern "C" fn tl_void(area: &mut [u8], base: u64, tag: u32, n: u64) -> DoneAnswer
+pub fn tl_void(area: &mut [u8], base: u64, tag: u32, n: u64) -> DoneAnswer
     ensures { Promised (to_void tag n) area.old base result area.new }
 {
     edits::void(area, base, tag, n).numbers()
 }
 
 // Relocates the list into the target. Answers the shift.
-#[unsafe(no_mangle)]
-pub extern "C" fn tl_relocate(
+pub fn tl_relocate(
     area: &[u8],
     base: u64,
     target: &mut [u8],
@@ -121,16 +114,14 @@ pub extern "C" fn tl_relocate(
 }
 
 // Checks the list of edition 0.9 in area, which stands at base.
-#[unsafe(no_mangle)]
-pub extern "C" fn tl09_check(area: &[u8], base: u64) -> CheckAnswer
+pub fn tl09_check(area: &[u8], base: u64) -> CheckAnswer
     ensures { result ≡ check_answer (check09 area.now base) }
 {
     check::check_of(Format::Edition09, area, base).numbers()
 }
 
 // Finds the data of occurrence n of a tag in a list of edition 0.9.
-#[unsafe(no_mangle)]
-pub extern "C" fn tl09_find(area: &[u8], base: u64, tag: u32, n: u64) -> FindAnswer
+pub fn tl09_find(area: &[u8], base: u64, tag: u32, n: u64) -> FindAnswer
     ensures { result ≡ find_answer (find09 area.now base tag n) }
 {
     find::find_of(Format::Edition09, area, base, tag, n).numbers()
@@ -146,8 +137,7 @@ pub fn tl09_find_data(area: &[u8], base: u64, tag: u32, n: u64) -> &[u8]
 }
 
 // Converts the list of edition 0.9 into the target, as a current list with checksums on. Answers the shift.
-#[unsafe(no_mangle)]
-pub extern "C" fn tl09_convert(
+pub fn tl09_convert(
     area: &[u8],
     base: u64,
     target: &mut [u8],
@@ -159,32 +149,28 @@ pub extern "C" fn tl09_convert(
 }
 
 // Tidies the list's voids. Answers the new used size.
-#[unsafe(no_mangle)]
-pub extern "C" fn tl_tidy(area: &mut [u8], base: u64) -> DoneAnswer
+pub fn tl_tidy(area: &mut [u8], base: u64) -> DoneAnswer
     ensures { Promised to_tidy area.old base result area.new }
 {
     tidy::tidy(area, base).numbers()
 }
 
 // The reading of the list's one test certificate, if it is that of this serial and test, and whether it passes its gate.
-#[unsafe(no_mangle)]
-pub extern "C" fn tl_certificate(area: &[u8], base: u64, serial: u64, test: u64) -> CertifiedAnswer
+pub fn tl_certificate(area: &[u8], base: u64, serial: u64, test: u64) -> CertifiedAnswer
     ensures { result ≡ certified_answer (certify_rule area.now base serial test) }
 {
     certify::certify(area, base, serial, test).numbers()
 }
 
 // Checks a flattened device tree, which it takes alone. Answers 0, or 21.
-#[unsafe(no_mangle)]
-pub extern "C" fn tl_fdt_check(data: &[u8]) -> u32
+pub fn tl_fdt_check(data: &[u8]) -> u32
     ensures { FdtChecked «data».now result }
 {
     tree::check(data)
 }
 
 // Finds the value of a property of a flattened device tree, by its node's path and its name.
-#[unsafe(no_mangle)]
-pub extern "C" fn tl_fdt_find(data: &[u8], path: &[u8], name: &[u8]) -> FindAnswer
+pub fn tl_fdt_find(data: &[u8], path: &[u8], name: &[u8]) -> FindAnswer
     ensures { Lookup «data».now path.now name.now result }
 {
     lookup::find::find(data, path, name)
@@ -199,8 +185,7 @@ pub fn tl_fdt_find_data<'a>(data: &'a [u8], path: &[u8], name: &[u8]) -> &'a [u8
 }
 
 // Adds an entry, with a journal. Answers the new data's offset.
-#[unsafe(no_mangle)]
-pub extern "C" fn tl_add_journalled(
+pub fn tl_add_journalled(
     area: &mut [u8],
     base: u64,
     tag: u32,
@@ -216,8 +201,7 @@ pub extern "C" fn tl_add_journalled(
 }
 
 // Adds an entry whose data address is a multiple of 2^exponent, with a journal. Answers the new data's offset.
-#[unsafe(no_mangle)]
-pub extern "C" fn tl_add_aligned_journalled(
+pub fn tl_add_aligned_journalled(
     area: &mut [u8],
     base: u64,
     tag: u32,
@@ -233,8 +217,7 @@ pub extern "C" fn tl_add_aligned_journalled(
 }
 
 // Turns occurrence n of a tag into a void, with a journal. Answers the voided entry's offset.
-#[unsafe(no_mangle)]
-pub extern "C" fn tl_void_journalled(
+pub fn tl_void_journalled(
     area: &mut [u8],
     base: u64,
     tag: u32,
@@ -249,8 +232,7 @@ pub extern "C" fn tl_void_journalled(
 }
 
 // Recovers what a power cut has left of a journalled edit. Answers 0, or 17.
-#[unsafe(no_mangle)]
-pub extern "C" fn tl_recover(area: &mut [u8], journal: &mut [u8]) -> DoneAnswer
+pub fn tl_recover(area: &mut [u8], journal: &mut [u8]) -> DoneAnswer
     ensures area_after { ended result (memory journal.new area.new) ≡ recovered (memory journal.old area.old) }
     ensures by_steps { ended result (memory journal.new area.new)
         ≡ to_end [] (recover_start (memory journal.old area.old)) (memory journal.old area.old) }
@@ -259,8 +241,7 @@ pub extern "C" fn tl_recover(area: &mut [u8], journal: &mut [u8]) -> DoneAnswer
 }
 
 // Decides an add with a journal, and stores nothing.
-#[unsafe(no_mangle)]
-pub extern "C" fn tl_add_steps(
+pub fn tl_add_steps(
     area: &[u8],
     base: u64,
     tag: u32,
@@ -275,8 +256,7 @@ pub extern "C" fn tl_add_steps(
 }
 
 // Decides an aligned add with a journal, and stores nothing.
-#[unsafe(no_mangle)]
-pub extern "C" fn tl_add_aligned_steps(
+pub fn tl_add_aligned_steps(
     area: &[u8],
     base: u64,
     tag: u32,
@@ -291,8 +271,7 @@ pub extern "C" fn tl_add_aligned_steps(
 }
 
 // Decides a void with a journal, and stores nothing.
-#[unsafe(no_mangle)]
-pub extern "C" fn tl_void_steps(area: &[u8], base: u64, tag: u32, n: u64, journal: &[u8]) -> Stepped
+pub fn tl_void_steps(area: &[u8], base: u64, tag: u32, n: u64, journal: &[u8]) -> Stepped
     ensures value { result ≡ report (start_for (to_void tag n) journal.now area.now base) }
     ensures begins { Begins (to_void tag n) journal.now area.now base }
 {
@@ -300,8 +279,7 @@ pub extern "C" fn tl_void_steps(area: &[u8], base: u64, tag: u32, n: u64, journa
 }
 
 // Decides a recovery, and stores nothing.
-#[unsafe(no_mangle)]
-pub extern "C" fn tl_recover_steps(area: &[u8], journal: &[u8]) -> Stepped
+pub fn tl_recover_steps(area: &[u8], journal: &[u8]) -> Stepped
     ensures value { result ≡ report (recover_start (memory journal.now area.now)) }
     ensures goes_as_recovery { GoesAsRecovery (memory journal.now area.now) result.state }
 {
@@ -309,8 +287,7 @@ pub extern "C" fn tl_recover_steps(area: &[u8], journal: &[u8]) -> Stepped
 }
 
 // One step from any state: it stores one byte, or nothing.
-#[unsafe(no_mangle)]
-pub extern "C" fn tl_step(state: Steps, area: &mut [u8], data: &[u8], journal: &mut [u8]) -> Stepped
+pub fn tl_step(state: Steps, area: &mut [u8], data: &[u8], journal: &mut [u8]) -> Stepped
     ensures value { result ≡ report (step_of «data».now state (memory journal.old area.old)).next }
     ensures area_after { memory journal.new area.new
         ≡ stepped «data».now state (memory journal.old area.old) }
