@@ -19,7 +19,7 @@ use Rattle.journal.specs.Journal.{Memory, memory, store_all, changed_words, edit
 use Rattle.journal.specs.PowerCut.{Journals}
 use Rattle.plan.specs.declared.Plan.{Plan}
 use Rattle.plan.specs.declared.Planned.{Planned}
-use Rattle.plan.specs.declared.Planned.TheVariants.{Go, Refused}
+use Rattle.plan.specs.declared.Planned.TheVariants.{Go}
 use Rattle.plan.specs.Plan.{after, outcome_of, WellFormed, CanWrite, Decides}
 use Rattle.plan.proofs.Laws.{header_span_le}
 use Rattle.words.specs.Words.{Writable, next_offset}

@@ -1,5 +1,5 @@
 -- Document 01, "Header and entries": the header's fields and its own numbers.
-use Rattle.std.specs.Prelude.{ℕ, ◌+◌, ◌%◌, Bool, cond, List, ◌++◌, eqb}
+use Rattle.std.specs.Prelude.{ℕ, ◌%◌, Bool, cond, List, ◌++◌, eqb}
 use Rattle.wire.specs.Bytes.{field, le_bytes, splice}
 use Rattle.rules.specs.declared.Header.{Header}
 

@@ -69,13 +69,7 @@ pub fn tl_create(area: &mut [u8], base: u64, has_checksum: bool) -> DoneAnswer
 }
 
 // Adds an entry. Answers the new data's offset.
-pub fn tl_add(
-    area: &mut [u8],
-    base: u64,
-    tag: u32,
-    data: &[u8],
-    use_voids: bool,
-) -> DoneAnswer
+pub fn tl_add(area: &mut [u8], base: u64, tag: u32, data: &[u8], use_voids: bool) -> DoneAnswer
     ensures { Promised (to_add tag «data».now use_voids) area.old base result area.new }
 {
     edits::add(area, base, tag, data, use_voids).numbers()
@@ -102,12 +96,7 @@ pub fn tl_void(area: &mut [u8], base: u64, tag: u32, n: u64) -> DoneAnswer
 }
 
 // Relocates the list into the target. Answers the shift.
-pub fn tl_relocate(
-    area: &[u8],
-    base: u64,
-    target: &mut [u8],
-    target_base: u64,
-) -> DoneAnswer
+pub fn tl_relocate(area: &[u8], base: u64, target: &mut [u8], target_base: u64) -> DoneAnswer
     ensures { Promised (to_relocate target.old target_base) area.now base result target.new }
 {
     relocate::relocate(area, base, target, target_base).numbers()
@@ -137,12 +126,7 @@ pub fn tl09_find_data(area: &[u8], base: u64, tag: u32, n: u64) -> &[u8]
 }
 
 // Converts the list of edition 0.9 into the target, as a current list with checksums on. Answers the shift.
-pub fn tl09_convert(
-    area: &[u8],
-    base: u64,
-    target: &mut [u8],
-    target_base: u64,
-) -> DoneAnswer
+pub fn tl09_convert(area: &[u8], base: u64, target: &mut [u8], target_base: u64) -> DoneAnswer
     ensures { ConvertPromised area.now base target.old target_base result target.new }
 {
     convert::convert(area, base, target, target_base).numbers()

@@ -36,7 +36,7 @@ lay_out-requires c =
     let low : 16 ≤ c.args.h.used_size = rw c.requires.0.header (used-least edition09 _ _ c.requires.0.sound) in
     let high : c.args.h.used_size ≤ length c.args.area.now = rw c.requires.0.header (used-most edition09 _ _ c.requires.0.sound) in
     let part : length (take (c.args.h.used_size - 16) (drop 16 c.args.area.now)) ≡ c.args.h.used_size - 16
-      = length_part c.args.area.now 16 (c.args.h.used_size - 16) (omega (arith, low, high)) in
+    = length_part c.args.area.now 16 (c.args.h.used_size - 16) (omega (arith, low, high)) in
     omega (arith, low, part)
 
 pub copy_part-requires : goal.copy_part-requires
@@ -51,7 +51,7 @@ pub returns : goal.returns
 returns c =
     let checksum : ℕ = bit_xor c.xor_part.result c.xor_part-2.result in
     let written : let a = c.args in c.write_header.new.a ≡ header_bytes (grown_header a.h (length a.target.now - a.shift))
-      = c.write_header.ensures
+    = c.write_header.ensures
     ∙ ap (λ (h : Header). splice _ 0 (header_bytes h)) c.grown_header.ensures
     ∙ splice_all _ _ (length-header_bytes _) in
     let a = c.args in

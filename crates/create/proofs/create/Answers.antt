@@ -42,9 +42,9 @@ unfolding create_rule
 returns-then-has_checksum c =
     let area : List ℕ = c.args.area.now in
     let ruled : create_rule area c.args.base c.args.has_checksum ≡ done (down8 (length area)) (fresh_list (length area) c.args.has_checksum)
-      = simp (← c.usable.ensures, c.if-not-usable.false, lt-leb _ _ c.if-len-size.false) in
+    = simp (← c.usable.ensures, c.if-not-usable.false, lt-leb _ _ c.if-len-size.false) in
     let written : c.zero_part.new.a ≡ unsealed (length area) c.args.has_checksum
-      = (let a : List ℕ = area in
+    = (let a : List ℕ = area in
     c.zero_part.ensures
     ∙ ap (λ (x : List ℕ). splice x 24 (replicate (length a - 24) 0))
     (c.write_header.ensures ∙ ap (λ (h : Header). splice a 0 (header_bytes h)) c.fresh.ensures)
@@ -59,9 +59,9 @@ unfolding create_rule
 returns-else-has_checksum c =
     let area : List ℕ = c.args.area.now in
     let ruled : create_rule area c.args.base c.args.has_checksum ≡ done (down8 (length area)) (fresh_list (length area) c.args.has_checksum)
-      = simp (← c.usable.ensures, c.if-not-usable.false, lt-leb _ _ c.if-len-size.false) in
+    = simp (← c.usable.ensures, c.if-not-usable.false, lt-leb _ _ c.if-len-size.false) in
     let written : c.zero_part.new.a ≡ unsealed (length area) c.args.has_checksum
-      = (let a : List ℕ = area in
+    = (let a : List ℕ = area in
     c.zero_part.ensures
     ∙ ap (λ (x : List ℕ). splice x 24 (replicate (length a - 24) 0))
     (c.write_header.ensures ∙ ap (λ (h : Header). splice a 0 (header_bytes h)) c.fresh.ensures)

@@ -15,19 +15,19 @@ returns-then-refuses_target c = simp (← c.refuses_target.ensures, c.if-refuses
 pub overflow_add-from : goal.overflow_add-from
 overflow_add-from c =
     let reached : let a = c.args in (a.target_base + a.len ≤ max_address) × (a.len ≤ max_length)
-      = target_reach _ _ (sym c.refuses_target.ensures ∙ c.if-refuses_target.false) in
+    = target_reach _ _ (sym c.refuses_target.ensures ∙ c.if-refuses_target.false) in
     omega (arith, reached)
 
 pub new_base-requires : goal.new_base-requires
 new_base-requires c =
     let reached : let a = c.args in (a.target_base + a.len ≤ max_address) × (a.len ≤ max_length)
-      = target_reach _ _ (sym c.refuses_target.ensures ∙ c.if-refuses_target.false) in
+    = target_reach _ _ (sym c.refuses_target.ensures ∙ c.if-refuses_target.false) in
     (c.requires.0, omega (arith, reached))
 
 pub overflow_sub-shift : goal.overflow_sub-shift
 overflow_sub-shift c =
     let bounds : let a = c.args in let from = a.target_base + a.growth in (from ≤ c.new_base.result) × (c.new_base.result < from + 2 ^ 32)
-      = (let a = c.args in
+    = (let a = c.args in
     let m : ℕ = 2 ^ a.alignment in
     let from : ℕ = a.target_base + a.growth in
     let p : m ≤ 2 ^ 32 = pow_mono {j = 32} (omega (arith, c.requires.0)) in
@@ -38,7 +38,7 @@ overflow_sub-shift c =
 pub overflow_add-shift : goal.overflow_add-shift
 overflow_add-shift c =
     let bounds : let a = c.args in let from = a.target_base + a.growth in (from ≤ c.new_base.result) × (c.new_base.result < from + 2 ^ 32)
-      = (let a = c.args in
+    = (let a = c.args in
     let m : ℕ = 2 ^ a.alignment in
     let from : ℕ = a.target_base + a.growth in
     let p : m ≤ 2 ^ 32 = pow_mono {j = 32} (omega (arith, c.requires.0)) in

@@ -16,13 +16,13 @@ use Rattle.relocate.proofs.write_target.Goals as goal
 pub slice_bounds-lay_out-end : goal.slice_bounds-lay_out-end
 slice_bounds-lay_out-end c =
     let used : length (take c.args.h.used_size c.args.area.now) ≡ c.args.h.used_size
-      = length-take-le _ _ (rw c.requires.0.header (used-most current _ _ c.requires.0.sound)) in
+    = length-take-le _ _ (rw c.requires.0.header (used-most current _ _ c.requires.0.sound)) in
     sym used
 
 pub lay_out-requires : goal.lay_out-requires
 lay_out-requires c =
     let used : length (take c.args.h.used_size c.args.area.now) ≡ c.args.h.used_size
-      = length-take-le _ _ (rw c.requires.0.header (used-most current _ _ c.requires.0.sound)) in
+    = length-take-le _ _ (rw c.requires.0.header (used-most current _ _ c.requires.0.sound)) in
     omega (arith, used)
 
 pub bounds-target-shift : goal.bounds-target-shift

@@ -1,5 +1,4 @@
 -- The invariant: the rows from here on decide as the whole table does, each tested by itself.
-use Prim.Native.Nat.{◌-◌}
 use native.Mathlib.Omega.{arith}
 use Rattle.rules.specs.Tags.{tag_table}
 use Rattle.tags.proofs.Laws.{begun, hit, missed, ended}

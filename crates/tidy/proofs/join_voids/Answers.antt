@@ -27,9 +27,9 @@ entry_at-e-requires c =
 pub overflow_add-next : goal.overflow_add-next
 overflow_add-next c =
     let spanned : let l = c.loop-at in c.entry_span.result ≡ entry_span (entry_at l.a l.at).data_size
-      = c.entry_span.ensures ∙ ap (λ (e : Entry). entry_span e.data_size) c.entry_at-e.ensures in
+    = c.entry_span.ensures ∙ ap (λ (e : Entry). entry_span e.data_size) c.entry_at-e.ensures in
     let fits : c.loop-at.at + c.entry_span.result ≤ c.args.h.used_size
-      = rw spanned (left-fits _ _ _ _ _ c.loop-at-test.true c.loop-at.invariant.1) in
+    = rw spanned (left-fits _ _ _ _ _ c.loop-at-test.true c.loop-at.invariant.1) in
     omega (arith, fits)
 
 pub overflow_sub-at : goal.overflow_sub-at
@@ -44,19 +44,19 @@ write_void-requires c =
 pub loop-at-smaller-then-e-ne0 : goal.loop-at-smaller-then-e-ne0
 loop-at-smaller-then-e-ne0 c =
     let spanned : let l = c.loop-at in c.entry_span.result ≡ entry_span (entry_at l.a l.at).data_size
-      = c.entry_span.ensures ∙ ap (λ (e : Entry). entry_span e.data_size) c.entry_at-e.ensures in
+    = c.entry_span.ensures ∙ ap (λ (e : Entry). entry_span e.data_size) c.entry_at-e.ensures in
     let fits : c.loop-at.at + c.entry_span.result ≤ c.args.h.used_size
-      = rw spanned (left-fits _ _ _ _ _ c.loop-at-test.true c.loop-at.invariant.1) in
+    = rw spanned (left-fits _ _ _ _ _ c.loop-at-test.true c.loop-at.invariant.1) in
     omega (arith, fits, spanned)
 
 pub loop-at-preserved-then-e-ne0 : goal.loop-at-preserved-then-e-ne0
 loop-at-preserved-then-e-ne0 c =
     let spanned : let l = c.loop-at in c.entry_span.result ≡ entry_span (entry_at l.a l.at).data_size
-      = c.entry_span.ensures ∙ ap (λ (e : Entry). entry_span e.data_size) c.entry_at-e.ensures in
+    = c.entry_span.ensures ∙ ap (λ (e : Entry). entry_span e.data_size) c.entry_at-e.ensures in
     let tagged : let l = c.loop-at in c.entry_at-e.result.tag_id ≡ (entry_at l.a l.at).tag_id
-      = ap (λ (e : Entry). e.tag_id) c.entry_at-e.ensures in
+    = ap (λ (e : Entry). e.tag_id) c.entry_at-e.ensures in
     let fits : c.loop-at.at + c.entry_span.result ≤ c.args.h.used_size
-      = rw spanned (left-fits _ _ _ _ _ c.loop-at-test.true c.loop-at.invariant.1) in
+    = rw spanned (left-fits _ _ _ _ _ c.loop-at-test.true c.loop-at.invariant.1) in
     let l = c.loop-at in
     let solid = c.if-e-ne0.true in
     let live = left-live _ _ _ _ _ c.loop-at-test.true l.invariant.1 (λ e. omega (arith, solid, tagged)) in
@@ -67,19 +67,19 @@ loop-at-preserved-then-e-ne0 c =
 pub loop-at-smaller : goal.loop-at-smaller
 loop-at-smaller c =
     let spanned : let l = c.loop-at in c.entry_span.result ≡ entry_span (entry_at l.a l.at).data_size
-      = c.entry_span.ensures ∙ ap (λ (e : Entry). entry_span e.data_size) c.entry_at-e.ensures in
+    = c.entry_span.ensures ∙ ap (λ (e : Entry). entry_span e.data_size) c.entry_at-e.ensures in
     let fits : c.loop-at.at + c.entry_span.result ≤ c.args.h.used_size
-      = rw spanned (left-fits _ _ _ _ _ c.loop-at-test.true c.loop-at.invariant.1) in
+    = rw spanned (left-fits _ _ _ _ _ c.loop-at-test.true c.loop-at.invariant.1) in
     omega (arith, fits, spanned)
 
 pub loop-at-preserved : goal.loop-at-preserved
 loop-at-preserved c =
     let spanned : let l = c.loop-at in c.entry_span.result ≡ entry_span (entry_at l.a l.at).data_size
-      = c.entry_span.ensures ∙ ap (λ (e : Entry). entry_span e.data_size) c.entry_at-e.ensures in
+    = c.entry_span.ensures ∙ ap (λ (e : Entry). entry_span e.data_size) c.entry_at-e.ensures in
     let tagged : let l = c.loop-at in c.entry_at-e.result.tag_id ≡ (entry_at l.a l.at).tag_id
-      = ap (λ (e : Entry). e.tag_id) c.entry_at-e.ensures in
+    = ap (λ (e : Entry). e.tag_id) c.entry_at-e.ensures in
     let fits : c.loop-at.at + c.entry_span.result ≤ c.args.h.used_size
-      = rw spanned (left-fits _ _ _ _ _ c.loop-at-test.true c.loop-at.invariant.1) in
+    = rw spanned (left-fits _ _ _ _ _ c.loop-at-test.true c.loop-at.invariant.1) in
     let l = c.loop-at in
     (fits, rw spanned (left-void _ _ _ _ _ c.loop-at-test.true l.invariant.1 (omega (arith, tagged, c.if-e-ne0.false))))
 

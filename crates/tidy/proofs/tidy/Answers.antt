@@ -21,7 +21,7 @@ pub returns : goal.returns
 unfolding tidy
 returns c =
     let ruled : let a = c.args in run to_tidy a.area.now a.base ≡ done (tidy_used a.area.now) (seal (tidy_bytes a.area.now))
-      = (let t = (survey.accepted _ _ _ _ _ _ _ (sym c.survey-surveyed.ensures ∙ c.in-Accepted.is)).checked in
+    = (let t = (survey.accepted _ _ _ _ _ _ _ (sym c.survey-surveyed.ensures ∙ c.in-Accepted.is)).checked in
     simp t) in
     let e = ruled in
     record { value = rw (e, c.write_tidy.ensures.value); area_after = rw e c.write_tidy.ensures.a_after }

@@ -1,5 +1,5 @@
 -- The invariant: the list is the one at entry with the first i bytes of src from at on. A turn copies one byte more.
-use Rattle.std.proofs.Common.{◌≡◌, ℕ, ◌+◌, ◌-◌, List, [], ◌∷◌, ◌++◌, get_or, take, set, sym, ap, ◌∙◌, add-one, arith, length-set, length-take-le, take_all, take-suc}
+use Rattle.std.proofs.Common.{◌≡◌, ℕ, ◌+◌, List, [], ◌∷◌, ◌++◌, get_or, take, set, sym, ap, ◌∙◌, add-one, arith, length-set, length-take-le, take_all, take-suc}
 use Rattle.wire.specs.Bytes.{splice}
 use Rattle.wire.proofs.Splice.{splice-nil, splice_snoc}
 use Rattle.wire.proofs.copy_part.Goals as goal

@@ -1,5 +1,5 @@
 -- The invariant: x is the sum of the i bytes from at on, modulo 256. A turn takes one byte more.
-use Rattle.std.proofs.Common.{◌≡◌, ℕ, ◌-◌, ◌%◌, ◌<◌, List, length, take, drop, ap, ◌∙◌, arith, length-drop, get_or-drop, rules}
+use Rattle.std.proofs.Common.{◌≡◌, ℕ, ◌%◌, ◌<◌, List, length, take, drop, ap, ◌∙◌, arith, length-drop, get_or-drop, rules}
 use Rattle.wire.specs.Bytes.{sum}
 use Rattle.wire.proofs.Sum.{sum-next}
 use Rattle.wire.proofs.sum_part.Goals as goal

@@ -1,5 +1,5 @@
 -- The invariant: x is the exclusive or of the i bytes from at on. A turn takes one byte more.
-use Rattle.std.proofs.Common.{◌≡◌, ℕ, ◌-◌, ◌<◌, List, length, get_or, take, drop, sym, ap, ◌∙◌, ap₂, arith, length-drop, get_or-drop, rules}
+use Rattle.std.proofs.Common.{◌≡◌, ℕ, ◌<◌, List, length, get_or, take, drop, sym, ap, ◌∙◌, ap₂, arith, length-drop, get_or-drop, rules}
 use lib.Bits.{bit_xor}
 use Rattle.wire.specs.Bytes.{xor}
 use Rattle.wire.proofs.Xor.{xor-next}

@@ -1,5 +1,5 @@
 -- The invariant: x folds to the exclusive or of the first i words of all four quarters. At the end the quarters stand one behind the other.
-use Rattle.std.proofs.Common.{◌≡◌, ℕ, ◌+◌, ◌-◌, ◌*◌, sym, ap, ◌∙◌, arith, rules}
+use Rattle.std.proofs.Common.{◌≡◌, ℕ, ◌+◌, ◌*◌, sym, ap, ◌∙◌, arith, rules}
 use Rattle.wire.specs.Bytes.{field, le_bytes, xor}
 use Rattle.wire.proofs.Range.{Bytes}
 use Rattle.wire.proofs.Fold.{word, fold-xor, next-words, four_stretches}

@@ -1,5 +1,5 @@
 -- The invariant: the list is the one at entry with i zeros from at on. A turn stores one zero more.
-use Rattle.std.proofs.Common.{◌≡◌, ℕ, ◌+◌, ◌-◌, List, set, replicate, sym, ap, ◌∙◌, arith, length-set}
+use Rattle.std.proofs.Common.{◌≡◌, ℕ, ◌+◌, List, set, replicate, sym, ap, ◌∙◌, arith, length-set}
 use lib.ListN.{length-replicate, replicate-append-replicate}
 use Rattle.wire.specs.Bytes.{splice}
 use Rattle.wire.proofs.Splice.{splice-nil, splice_snoc}

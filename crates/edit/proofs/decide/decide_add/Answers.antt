@@ -25,7 +25,7 @@ unfolding add
 returns-then-refuses_tag_add c =
     let ruled : Outcome = (let a = c.args in run (to_add a.tag a.«data».now a.use_voids) a.area.now a.base) in
     let ran : let a = c.args in ruled ≡ add a.area.now a.tag a.«data».now a.use_voids
-      = simp (survey.accepted _ _ _ _ _ _ _ (sym c.survey-surveyed.ensures ∙ c.in-Accepted.is)).checked in
+    = simp (survey.accepted _ _ _ _ _ _ _ (sym c.survey-surveyed.ensures ∙ c.in-Accepted.is)).checked in
     let d = decides_refused _ _ _ _ _ (ran ∙ simp (← c.refuses_tag_add.ensures, c.if-refuses_tag_add.true)) in
     record { decides = d.0; value = d.1 }
 
@@ -34,12 +34,12 @@ unfolding add
 returns-then-refuses_shape c =
     let ruled : Outcome = (let a = c.args in run (to_add a.tag a.«data».now a.use_voids) a.area.now a.base) in
     let placed : Outcome
-      = (let a = c.args in
+    = (let a = c.args in
     add_at a.area.now a.tag a.«data».now (taken_void a.use_voids (length a.«data».now) a.area.now)) in
     let ran : let a = c.args in ruled ≡ add a.area.now a.tag a.«data».now a.use_voids
-      = simp (survey.accepted _ _ _ _ _ _ _ (sym c.survey-surveyed.ensures ∙ c.in-Accepted.is)).checked in
+    = simp (survey.accepted _ _ _ _ _ _ _ (sym c.survey-surveyed.ensures ∙ c.in-Accepted.is)).checked in
     let tagged : let a = c.args in ruled ≡ cond (refuses_shape a.tag (length a.«data».now)) (refused Shape) placed
-      = ran ∙ simp (← c.refuses_tag_add.ensures, c.if-refuses_tag_add.false) in
+    = ran ∙ simp (← c.refuses_tag_add.ensures, c.if-refuses_tag_add.false) in
     let d = decides_refused _ _ _ _ _ (tagged ∙ simp (← c.refuses_shape.ensures, c.if-refuses_shape.true)) in
     record { decides = d.0; value = d.1 }
 
@@ -55,11 +55,11 @@ unfolding add
 returns c =
     let ruled : Outcome = (let a = c.args in run (to_add a.tag a.«data».now a.use_voids) a.area.now a.base) in
     let placed : Outcome
-      = (let a = c.args in
+    = (let a = c.args in
     add_at a.area.now a.tag a.«data».now (taken_void a.use_voids (length a.«data».now) a.area.now)) in
     let ran : let a = c.args in ruled ≡ add a.area.now a.tag a.«data».now a.use_voids
-      = simp (survey.accepted _ _ _ _ _ _ _ (sym c.survey-surveyed.ensures ∙ c.in-Accepted.is)).checked in
+    = simp (survey.accepted _ _ _ _ _ _ _ (sym c.survey-surveyed.ensures ∙ c.in-Accepted.is)).checked in
     let tagged : let a = c.args in ruled ≡ cond (refuses_shape a.tag (length a.«data».now)) (refused Shape) placed
-      = ran ∙ simp (← c.refuses_tag_add.ensures, c.if-refuses_tag_add.false) in
+    = ran ∙ simp (← c.refuses_tag_add.ensures, c.if-refuses_tag_add.false) in
     let shaped : ruled ≡ placed = tagged ∙ simp (← c.refuses_shape.ensures, c.if-refuses_shape.false) in
     record { decides = rw shaped c.decide_place.ensures.decides; value = rw shaped c.decide_place.ensures.value }

@@ -31,7 +31,7 @@ unfolding add_aligned
 returns-then-refuses_tag_add c =
     let ruled : Outcome = (let a = c.args in run (to_add_aligned a.tag a.«data».now a.exponent) a.area.now a.base) in
     let ran : let a = c.args in ruled ≡ add_aligned a.area.now a.base a.tag a.«data».now a.exponent
-      = simp (survey.accepted _ _ _ _ _ _ _ (sym c.survey-surveyed.ensures ∙ c.in-Accepted.is)).checked in
+    = simp (survey.accepted _ _ _ _ _ _ _ (sym c.survey-surveyed.ensures ∙ c.in-Accepted.is)).checked in
     let d = decides_refused _ _ _ _ _ (ran ∙ simp (← c.refuses_tag_add.ensures, c.if-refuses_tag_add.true)) in
     record { decides = d.0; value = d.1 }
 
@@ -41,9 +41,9 @@ returns-then-refuses_shape c =
     let ruled : Outcome = (let a = c.args in run (to_add_aligned a.tag a.«data».now a.exponent) a.area.now a.base) in
     let at_end : Outcome = (let a = c.args in add_aligned_at_end a.area.now a.base a.tag a.«data».now a.exponent) in
     let ran : let a = c.args in ruled ≡ add_aligned a.area.now a.base a.tag a.«data».now a.exponent
-      = simp (survey.accepted _ _ _ _ _ _ _ (sym c.survey-surveyed.ensures ∙ c.in-Accepted.is)).checked in
+    = simp (survey.accepted _ _ _ _ _ _ _ (sym c.survey-surveyed.ensures ∙ c.in-Accepted.is)).checked in
     let tagged : let a = c.args in ruled ≡ cond (refuses_shape a.tag (length a.«data».now)) (refused Shape) (cond (refuses_align a.exponent) (refused Align) at_end)
-      = ran ∙ simp (← c.refuses_tag_add.ensures, c.if-refuses_tag_add.false) in
+    = ran ∙ simp (← c.refuses_tag_add.ensures, c.if-refuses_tag_add.false) in
     let d = decides_refused _ _ _ _ _ (tagged ∙ simp (← c.refuses_shape.ensures, c.if-refuses_shape.true)) in
     record { decides = d.0; value = d.1 }
 
@@ -53,11 +53,11 @@ returns-then-refuses_align c =
     let ruled : Outcome = (let a = c.args in run (to_add_aligned a.tag a.«data».now a.exponent) a.area.now a.base) in
     let at_end : Outcome = (let a = c.args in add_aligned_at_end a.area.now a.base a.tag a.«data».now a.exponent) in
     let ran : let a = c.args in ruled ≡ add_aligned a.area.now a.base a.tag a.«data».now a.exponent
-      = simp (survey.accepted _ _ _ _ _ _ _ (sym c.survey-surveyed.ensures ∙ c.in-Accepted.is)).checked in
+    = simp (survey.accepted _ _ _ _ _ _ _ (sym c.survey-surveyed.ensures ∙ c.in-Accepted.is)).checked in
     let tagged : let a = c.args in ruled ≡ cond (refuses_shape a.tag (length a.«data».now)) (refused Shape) (cond (refuses_align a.exponent) (refused Align) at_end)
-      = ran ∙ simp (← c.refuses_tag_add.ensures, c.if-refuses_tag_add.false) in
+    = ran ∙ simp (← c.refuses_tag_add.ensures, c.if-refuses_tag_add.false) in
     let shaped : ruled ≡ cond (refuses_align c.args.exponent) (refused Align) at_end
-      = tagged ∙ simp (← c.refuses_shape.ensures, c.if-refuses_shape.false) in
+    = tagged ∙ simp (← c.refuses_shape.ensures, c.if-refuses_shape.false) in
     let d = decides_refused _ _ _ _ _ (shaped ∙ simp (← c.refuses_align.ensures, c.if-refuses_align.true)) in
     record { decides = d.0; value = d.1 }
 
@@ -65,9 +65,9 @@ pub padding_for-requires : goal.padding_for-requires
 padding_for-requires c =
     let header : Header = c.in-Accepted.h in
     let admitted : Admitted c.args.area.now c.args.base header
-      = survey.admitted _ _ _ _ _ _ (sym c.survey-surveyed.ensures ∙ c.in-Accepted.is) in
+    = survey.admitted _ _ _ _ _ _ (sym c.survey-surveyed.ensures ∙ c.in-Accepted.is) in
     let ranged : (least_alignment ≤ c.args.exponent) × (c.args.exponent ≤ max_alignment)
-      = align_range c.args.exponent (sym c.refuses_align.ensures ∙ c.if-refuses_align.false) in
+    = align_range c.args.exponent (sym c.refuses_align.ensures ∙ c.if-refuses_align.false) in
     let u = admitted.sound.header.usable in
     let e = ranged in
     (omega arith, omega arith)
@@ -75,16 +75,16 @@ padding_for-requires c =
 pub larger-requires : goal.larger-requires
 larger-requires c =
     let ranged : (least_alignment ≤ c.args.exponent) × (c.args.exponent ≤ max_alignment)
-      = align_range c.args.exponent (sym c.refuses_align.ensures ∙ c.if-refuses_align.false) in
+    = align_range c.args.exponent (sym c.refuses_align.ensures ∙ c.if-refuses_align.false) in
     omega (arith, ranged)
 
 pub decide_end-requires : goal.decide_end-requires
 decide_end-requires c =
     let header : Header = c.in-Accepted.h in
     let admitted : Admitted c.args.area.now c.args.base header
-      = survey.admitted _ _ _ _ _ _ (sym c.survey-surveyed.ensures ∙ c.in-Accepted.is) in
+    = survey.admitted _ _ _ _ _ _ (sym c.survey-surveyed.ensures ∙ c.in-Accepted.is) in
     let ranged : (least_alignment ≤ c.args.exponent) × (c.args.exponent ≤ max_alignment)
-      = align_range c.args.exponent (sym c.refuses_align.ensures ∙ c.if-refuses_align.false) in
+    = align_range c.args.exponent (sym c.refuses_align.ensures ∙ c.if-refuses_align.false) in
     let m = admitted in
     let h = m.sound.header in
     let u = ap (λ (x : Header). x.used_size) m.header in
@@ -102,17 +102,17 @@ unfolding add_aligned
 returns c =
     let header : Header = c.in-Accepted.h in
     let admitted : Admitted c.args.area.now c.args.base header
-      = survey.admitted _ _ _ _ _ _ (sym c.survey-surveyed.ensures ∙ c.in-Accepted.is) in
+    = survey.admitted _ _ _ _ _ _ (sym c.survey-surveyed.ensures ∙ c.in-Accepted.is) in
     let ranged : (least_alignment ≤ c.args.exponent) × (c.args.exponent ≤ max_alignment)
-      = align_range c.args.exponent (sym c.refuses_align.ensures ∙ c.if-refuses_align.false) in
+    = align_range c.args.exponent (sym c.refuses_align.ensures ∙ c.if-refuses_align.false) in
     let ruled : Outcome = (let a = c.args in run (to_add_aligned a.tag a.«data».now a.exponent) a.area.now a.base) in
     let at_end : Outcome = (let a = c.args in add_aligned_at_end a.area.now a.base a.tag a.«data».now a.exponent) in
     let ran : let a = c.args in ruled ≡ add_aligned a.area.now a.base a.tag a.«data».now a.exponent
-      = simp (survey.accepted _ _ _ _ _ _ _ (sym c.survey-surveyed.ensures ∙ c.in-Accepted.is)).checked in
+    = simp (survey.accepted _ _ _ _ _ _ _ (sym c.survey-surveyed.ensures ∙ c.in-Accepted.is)).checked in
     let tagged : let a = c.args in ruled ≡ cond (refuses_shape a.tag (length a.«data».now)) (refused Shape) (cond (refuses_align a.exponent) (refused Align) at_end)
-      = ran ∙ simp (← c.refuses_tag_add.ensures, c.if-refuses_tag_add.false) in
+    = ran ∙ simp (← c.refuses_tag_add.ensures, c.if-refuses_tag_add.false) in
     let shaped : ruled ≡ cond (refuses_align c.args.exponent) (refused Align) at_end
-      = tagged ∙ simp (← c.refuses_shape.ensures, c.if-refuses_shape.false) in
+    = tagged ∙ simp (← c.refuses_shape.ensures, c.if-refuses_shape.false) in
     let aligned : ruled ≡ at_end = shaped ∙ simp (← c.refuses_align.ensures, c.if-refuses_align.false) in
     let a = c.args in
     let e = aligned-end a.area.now a.base header a.tag a.«data».now a.exponent admitted ranged.0 in

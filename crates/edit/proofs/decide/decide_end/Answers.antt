@@ -24,17 +24,17 @@ returns-then-room-padding c =
 pub with_checksum-requires : goal.with_checksum-requires
 with_checksum-requires c =
     let enough : c.args.padding + 8 + align8 (length c.args.«data».now) ≤ room c.args.area.now
-      = (let e = same_room _ _ _ c.requires.0 in omega arith) in
+    = (let e = same_room _ _ _ c.requires.0 in omega arith) in
     let formed : let a = c.args in let n = length a.«data».now in WellFormed a.h (length a.area.now) n (plan_at_end a.h a.padding a.alignment a.tag n)
-      = at_end_formed _ _ _ c.requires.0 _ _ _ _ c.requires.1 (omega arith) c.requires.3 enough in
+    = at_end_formed _ _ _ c.requires.0 _ _ _ _ c.requires.1 (omega arith) c.requires.3 enough in
     rw c.at_end.ensures (asks _ _ _ _ _ c.requires.0 formed)
 
 pub returns : goal.returns
 returns c =
     let enough : c.args.padding + 8 + align8 (length c.args.«data».now) ≤ room c.args.area.now
-      = (let e = same_room _ _ _ c.requires.0 in omega arith) in
+    = (let e = same_room _ _ _ c.requires.0 in omega arith) in
     let formed : let a = c.args in let n = length a.«data».now in WellFormed a.h (length a.area.now) n (plan_at_end a.h a.padding a.alignment a.tag n)
-      = at_end_formed _ _ _ c.requires.0 _ _ _ _ c.requires.1 (omega arith) c.requires.3 enough in
+    = at_end_formed _ _ _ c.requires.0 _ _ _ _ c.requires.1 (omega arith) c.requires.3 enough in
     let m = c.requires.0 in
     let b : Bytes c.args.area.now = λ i. omega (arith, c.type_inv.area i) in
     let d = decides_plan _ _ _ _ _ _ m b formed (at_end-comes _ _ _ m b _ _ _ _ enough) in

@@ -32,26 +32,26 @@ returns-in_default c =
 pub in_void-requires : goal.in_void-requires
 in_void-requires c =
     let fits : first_fit (length c.args.«data».now) (entries_of c.args.area.now) ≡ some c.in-At.e
-      = sought_at (first_fit _ _) _ (sym c.requires.1 ∙ c.in-At.is) in
+    = sought_at (first_fit _ _) _ (sym c.requires.1 ∙ c.in-At.is) in
     let formed : let a = c.args in let n = length a.«data».now in WellFormed a.h (length a.area.now) n (plan_in_void a.h c.in-At.e a.tag n)
-      = in_void_formed _ _ _ c.requires.0 _ _ _ fits c.requires.2 in
+    = in_void_formed _ _ _ c.requires.0 _ _ _ fits c.requires.2 in
     let r = void-room _ _ _ c.requires.0 _ _ fits in
     (r.2, omega (arith, formed))
 
 pub with_checksum-requires : goal.with_checksum-requires
 with_checksum-requires c =
     let fits : first_fit (length c.args.«data».now) (entries_of c.args.area.now) ≡ some c.in-At.e
-      = sought_at (first_fit _ _) _ (sym c.requires.1 ∙ c.in-At.is) in
+    = sought_at (first_fit _ _) _ (sym c.requires.1 ∙ c.in-At.is) in
     let formed : let a = c.args in let n = length a.«data».now in WellFormed a.h (length a.area.now) n (plan_in_void a.h c.in-At.e a.tag n)
-      = in_void_formed _ _ _ c.requires.0 _ _ _ fits c.requires.2 in
+    = in_void_formed _ _ _ c.requires.0 _ _ _ fits c.requires.2 in
     rw c.in_void.ensures (asks _ _ _ _ _ c.requires.0 formed)
 
 pub returns : goal.returns
 returns c =
     let fits : first_fit (length c.args.«data».now) (entries_of c.args.area.now) ≡ some c.in-At.e
-      = sought_at (first_fit _ _) _ (sym c.requires.1 ∙ c.in-At.is) in
+    = sought_at (first_fit _ _) _ (sym c.requires.1 ∙ c.in-At.is) in
     let formed : let a = c.args in let n = length a.«data».now in WellFormed a.h (length a.area.now) n (plan_in_void a.h c.in-At.e a.tag n)
-      = in_void_formed _ _ _ c.requires.0 _ _ _ fits c.requires.2 in
+    = in_void_formed _ _ _ c.requires.0 _ _ _ fits c.requires.2 in
     let m = c.requires.0 in
     let b : Bytes c.args.area.now = λ i. omega (arith, c.type_inv.area i) in
     let u : c.args.use_voids ≡ true = c.if-not-use_voids.false in

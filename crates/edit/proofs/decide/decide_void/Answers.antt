@@ -30,7 +30,7 @@ pub returns-then-refuses_tag : goal.returns-then-refuses_tag
 unfolding void
 returns-then-refuses_tag c =
     let told : let a = c.args in survey.Accepts true a.area.now a.base (record { tag = a.tag; least = 0; n = a.n }) c.in-Accepted.field-0 c.in-Accepted.h c.in-Accepted.found
-      = survey.accepted _ _ _ _ _ _ _ (sym c.survey-surveyed.ensures ∙ c.in-Accepted.is) in
+    = survey.accepted _ _ _ _ _ _ _ (sym c.survey-surveyed.ensures ∙ c.in-Accepted.is) in
     let d = decides_refused _ _ _ _ _ (simp (told.checked, ← c.refuses_tag.ensures, c.if-refuses_tag.true)) in
     record { decides = d.0; value = d.1 }
 
@@ -39,11 +39,11 @@ unfolding void
 returns-in_default-found c =
     let ruled : Outcome = (let a = c.args in run (to_void a.tag a.n) a.area.now a.base) in
     let told : let a = c.args in survey.Accepts true a.area.now a.base (record { tag = a.tag; least = 0; n = a.n }) c.in-Accepted.field-0 c.in-Accepted.h c.in-Accepted.found
-      = survey.accepted _ _ _ _ _ _ _ (sym c.survey-surveyed.ensures ∙ c.in-Accepted.is) in
+    = survey.accepted _ _ _ _ _ _ _ (sym c.survey-surveyed.ensures ∙ c.in-Accepted.is) in
     let tagged : let a = c.args in ruled ≡ void_at a.area.now (occurrence a.tag a.n (entries_of a.area.now))
-      = simp (told.checked, ← c.refuses_tag.ensures, c.if-refuses_tag.false) in
+    = simp (told.checked, ← c.refuses_tag.ensures, c.if-refuses_tag.false) in
     let met : let a = c.args in c.in-Accepted.found ≡ sought (occurrence a.tag a.n (entries_of a.area.now))
-      = rw occurrence_wanted told.found in
+    = rw occurrence_wanted told.found in
     let n = sought-nothing (occurrence _ _ _) (sym met ∙ c.in_default-found.is) in
     let d = decides_refused _ _ _ _ _ (tagged ∙ simp n) in
     record { decides = d.0; value = d.1 }
@@ -51,30 +51,30 @@ returns-in_default-found c =
 pub void_plan-requires : goal.void_plan-requires
 void_plan-requires c =
     let told : let a = c.args in survey.Accepts true a.area.now a.base (record { tag = a.tag; least = 0; n = a.n }) c.in-Accepted.field-0 c.in-Accepted.h c.in-Accepted.found
-      = survey.accepted _ _ _ _ _ _ _ (sym c.survey-surveyed.ensures ∙ c.in-Accepted.is) in
+    = survey.accepted _ _ _ _ _ _ _ (sym c.survey-surveyed.ensures ∙ c.in-Accepted.is) in
     let met : let a = c.args in c.in-Accepted.found ≡ sought (occurrence a.tag a.n (entries_of a.area.now))
-      = rw occurrence_wanted told.found in
+    = rw occurrence_wanted told.found in
     let found : let a = c.args in occurrence a.tag a.n (entries_of a.area.now) ≡ some c.in-At.e
-      = sought_at (occurrence _ _ _) _ (sym met ∙ c.in-At.is) in
+    = sought_at (occurrence _ _ _) _ (sym met ∙ c.in-At.is) in
     let admitted : Admitted c.args.area.now c.args.base c.in-Accepted.h
-      = survey.admitted _ _ _ _ _ _ (sym c.survey-surveyed.ensures ∙ c.in-Accepted.is) in
+    = survey.admitted _ _ _ _ _ _ (sym c.survey-surveyed.ensures ∙ c.in-Accepted.is) in
     let formed : let a = c.args in let h = c.in-Accepted.h in WellFormed h (length a.area.now) 0 (plan_void h c.in-At.e)
-      = (let t = tag_range _ (sym c.refuses_tag.ensures ∙ c.if-refuses_tag.false) in
+    = (let t = tag_range _ (sym c.refuses_tag.ensures ∙ c.if-refuses_tag.false) in
     void_formed _ _ _ admitted _ _ _ t.0 found) in
     omega (arith, formed)
 
 pub with_checksum-requires : goal.with_checksum-requires
 with_checksum-requires c =
     let admitted : Admitted c.args.area.now c.args.base c.in-Accepted.h
-      = survey.admitted _ _ _ _ _ _ (sym c.survey-surveyed.ensures ∙ c.in-Accepted.is) in
+    = survey.admitted _ _ _ _ _ _ (sym c.survey-surveyed.ensures ∙ c.in-Accepted.is) in
     let told : let a = c.args in survey.Accepts true a.area.now a.base (record { tag = a.tag; least = 0; n = a.n }) c.in-Accepted.field-0 c.in-Accepted.h c.in-Accepted.found
-      = survey.accepted _ _ _ _ _ _ _ (sym c.survey-surveyed.ensures ∙ c.in-Accepted.is) in
+    = survey.accepted _ _ _ _ _ _ _ (sym c.survey-surveyed.ensures ∙ c.in-Accepted.is) in
     let met : let a = c.args in c.in-Accepted.found ≡ sought (occurrence a.tag a.n (entries_of a.area.now))
-      = rw occurrence_wanted told.found in
+    = rw occurrence_wanted told.found in
     let found : let a = c.args in occurrence a.tag a.n (entries_of a.area.now) ≡ some c.in-At.e
-      = sought_at (occurrence _ _ _) _ (sym met ∙ c.in-At.is) in
+    = sought_at (occurrence _ _ _) _ (sym met ∙ c.in-At.is) in
     let formed : let a = c.args in let h = c.in-Accepted.h in WellFormed h (length a.area.now) 0 (plan_void h c.in-At.e)
-      = (let t = tag_range _ (sym c.refuses_tag.ensures ∙ c.if-refuses_tag.false) in
+    = (let t = tag_range _ (sym c.refuses_tag.ensures ∙ c.if-refuses_tag.false) in
     void_formed _ _ _ admitted _ _ _ t.0 found) in
     rw c.void_plan.ensures (asks _ _ _ _ _ admitted formed)
 
@@ -83,17 +83,17 @@ unfolding void
 returns c =
     let ruled : Outcome = (let a = c.args in run (to_void a.tag a.n) a.area.now a.base) in
     let told : let a = c.args in survey.Accepts true a.area.now a.base (record { tag = a.tag; least = 0; n = a.n }) c.in-Accepted.field-0 c.in-Accepted.h c.in-Accepted.found
-      = survey.accepted _ _ _ _ _ _ _ (sym c.survey-surveyed.ensures ∙ c.in-Accepted.is) in
+    = survey.accepted _ _ _ _ _ _ _ (sym c.survey-surveyed.ensures ∙ c.in-Accepted.is) in
     let tagged : let a = c.args in ruled ≡ void_at a.area.now (occurrence a.tag a.n (entries_of a.area.now))
-      = simp (told.checked, ← c.refuses_tag.ensures, c.if-refuses_tag.false) in
+    = simp (told.checked, ← c.refuses_tag.ensures, c.if-refuses_tag.false) in
     let met : let a = c.args in c.in-Accepted.found ≡ sought (occurrence a.tag a.n (entries_of a.area.now))
-      = rw occurrence_wanted told.found in
+    = rw occurrence_wanted told.found in
     let found : let a = c.args in occurrence a.tag a.n (entries_of a.area.now) ≡ some c.in-At.e
-      = sought_at (occurrence _ _ _) _ (sym met ∙ c.in-At.is) in
+    = sought_at (occurrence _ _ _) _ (sym met ∙ c.in-At.is) in
     let admitted : Admitted c.args.area.now c.args.base c.in-Accepted.h
-      = survey.admitted _ _ _ _ _ _ (sym c.survey-surveyed.ensures ∙ c.in-Accepted.is) in
+    = survey.admitted _ _ _ _ _ _ (sym c.survey-surveyed.ensures ∙ c.in-Accepted.is) in
     let formed : let a = c.args in let h = c.in-Accepted.h in WellFormed h (length a.area.now) 0 (plan_void h c.in-At.e)
-      = (let t = tag_range _ (sym c.refuses_tag.ensures ∙ c.if-refuses_tag.false) in
+    = (let t = tag_range _ (sym c.refuses_tag.ensures ∙ c.if-refuses_tag.false) in
     void_formed _ _ _ admitted _ _ _ t.0 found) in
     let m = admitted in
     let b : Bytes c.args.area.now = λ i. omega (arith, c.type_inv.area i) in

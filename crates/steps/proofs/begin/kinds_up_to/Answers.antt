@@ -1,7 +1,7 @@
 -- From the last record to the first: each turn adds one record in front.
 use Rattle.steps.proofs.Decision.{none_high, kinds_back, kinds_all}
 use lib.ListN.{length}
-use Prim.Native.Nat.{◌-◌, ◌/◌}
+use Prim.Native.Nat.{◌/◌}
 use native.Mathlib.Omega.{arith}
 use Rattle.steps.proofs.begin.kinds_up_to.Goals as goal
 

@@ -1,7 +1,7 @@
 -- From the last record to the first: each turn adds one record in front.
 use Rattle.steps.proofs.Decision.{no_verdict, verdict_back, verdict_all}
 use lib.ListN.{length}
-use Prim.Native.Nat.{◌-◌, ◌/◌}
+use Prim.Native.Nat.{◌/◌}
 use native.Mathlib.Omega.{arith}
 use Rattle.steps.proofs.begin.verdict.Goals as goal
 

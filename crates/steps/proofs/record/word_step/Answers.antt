@@ -49,15 +49,15 @@ returns-then-not-can_write c =
 pub plan-p-requires : goal.plan-p-requires
 plan-p-requires c =
     let tested : let a = c.args in Can a.s (length a.area.now) (length a.«data».now)
-      = can _ _ _ (sym c.can_write.ensures ∙ c.if-not-can_write.false) in
+    = can _ _ _ (sym c.can_write.ensures ∙ c.if-not-can_write.false) in
     (tested.checksum, tested.alignment)
 
 pub word_byte-requires : goal.word_byte-requires
 word_byte-requires c =
     let tested : let a = c.args in Can a.s (length a.area.now) (length a.«data».now)
-      = can _ _ _ (sym c.can_write.ensures ∙ c.if-not-can_write.false) in
+    = can _ _ _ (sym c.can_write.ensures ∙ c.if-not-can_write.false) in
     let written : let a = c.args in Writable c.plan-p.result (length a.area.now) (length a.«data».now)
-      = (let e = c.plan-p.ensures.value in
+    = (let e = c.plan-p.ensures.value in
     let short = subst (λ (p : Plan). (p.at < 2 ^ 32) × (p.padding < 2 ^ 32) × (p.zeros < 2 ^ 32) × (p.behind < 2 ^ 32)) e c.plan-p.ensures.at_bound in
     rw e (tested.writable short)) in
     (written, omega (arith, c.if-area-word.false, c.if-word-ne0.false), c.slot-k.ensures.1)
@@ -65,9 +65,9 @@ word_byte-requires c =
 pub after_word-requires : goal.after_word-requires
 after_word-requires c =
     let tested : let a = c.args in Can a.s (length a.area.now) (length a.«data».now)
-      = can _ _ _ (sym c.can_write.ensures ∙ c.if-not-can_write.false) in
+    = can _ _ _ (sym c.can_write.ensures ∙ c.if-not-can_write.false) in
     let written : let a = c.args in Writable c.plan-p.result (length a.area.now) (length a.«data».now)
-      = (let e = c.plan-p.ensures.value in
+    = (let e = c.plan-p.ensures.value in
     let short = subst (λ (p : Plan). (p.at < 2 ^ 32) × (p.padding < 2 ^ 32) × (p.zeros < 2 ^ 32) × (p.behind < 2 ^ 32)) e c.plan-p.ensures.at_bound in
     rw e (tested.writable short)) in
     let e = c.if-word-ne0.false in

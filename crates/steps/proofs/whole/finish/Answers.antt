@@ -15,13 +15,13 @@ step-r-requires c = tt
 pub loop-s-smaller : goal.loop-s-smaller
 loop-s-smaller c =
     let left_by : let l = c.loop-s in let d = c.args.«data».now in c.step-r.result.state ≡ (step_of d l.s (memory l.journal l.area)).next
-      = ap (λ (r : Stepped). r.state) c.step-r.ensures.value ∙ reported _ in
+    = ap (λ (r : Stepped). r.state) c.step-r.ensures.value ∙ reported _ in
     turn_less _ _ _ _ _ _ _ left_by c.step-r.ensures.area_after c.loop-s-test.true
 
 pub loop-s-preserved : goal.loop-s-preserved
 loop-s-preserved c =
     let left_by : let l = c.loop-s in let d = c.args.«data».now in c.step-r.result.state ≡ (step_of d l.s (memory l.journal l.area)).next
-      = ap (λ (r : Stepped). r.state) c.step-r.ensures.value ∙ reported _ in
+    = ap (λ (r : Stepped). r.state) c.step-r.ensures.value ∙ reported _ in
     let i = c.loop-s.invariant in
     let n = c.loop-s-test.true in
     let f = c.step-r.ensures.area_after in (

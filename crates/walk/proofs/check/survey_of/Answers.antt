@@ -17,7 +17,7 @@ returns-in_default c =
 pub summed-requires : goal.summed-requires
 summed-requires c =
     let good : let a = c.args in GoodHeader (edition_of a.format) a.editing a.area.now a.base c.in-Good.h
-      = good_header _ _ _ _ _ (sym c.check_header-headed.ensures ∙ c.in-Good.is) in
+    = good_header _ _ _ _ _ (sym c.check_header-headed.ensures ∙ c.in-Good.is) in
     let g = good in
     (g.same, omega (arith, shortest c.args.format, g.least), g.used)
 
@@ -25,22 +25,22 @@ pub returns-then-not-summed : goal.returns-then-not-summed
 unfolding checks_of
 returns-then-not-summed c =
     let good : let a = c.args in GoodHeader (edition_of a.format) a.editing a.area.now a.base c.in-Good.h
-      = good_header _ _ _ _ _ (sym c.check_header-headed.ensures ∙ c.in-Good.is) in
+    = good_header _ _ _ _ _ (sym c.check_header-headed.ensures ∙ c.in-Good.is) in
     simp (good.passed, ← c.summed.ensures, c.if-not-summed.true)
 
 pub walk-requires : goal.walk-requires
 walk-requires c =
     let good : let a = c.args in GoodHeader (edition_of a.format) a.editing a.area.now a.base c.in-Good.h
-      = good_header _ _ _ _ _ (sym c.check_header-headed.ensures ∙ c.in-Good.is) in
+    = good_header _ _ _ _ _ (sym c.check_header-headed.ensures ∙ c.in-Good.is) in
     let g = good in (g.first, g.used)
 
 pub returns-in-Counts : goal.returns-in-Counts
 unfolding checks_of walk entries_of
 returns-in-Counts c =
     let good : let a = c.args in GoodHeader (edition_of a.format) a.editing a.area.now a.base c.in-Good.h
-      = good_header _ _ _ _ _ (sym c.check_header-headed.ensures ∙ c.in-Good.is) in
+    = good_header _ _ _ _ _ (sym c.check_header-headed.ensures ∙ c.in-Good.is) in
     let goes_on : let a = c.args in survey_in (edition_of a.format) a.editing a.area.now a.base a.w ≡ answered c.in-Good.h c.walk.result
-      = (    let g = good in
+    = (let g = good in
     simp (g.passed, ← c.summed.ensures, c.if-not-summed.false, walk-answers, ← g.same, ← c.walk.ensures)) in
     rw (goes_on, c.in-Counts.is)
 
@@ -48,8 +48,8 @@ pub returns-in-Broken : goal.returns-in-Broken
 unfolding checks_of walk entries_of
 returns-in-Broken c =
     let good : let a = c.args in GoodHeader (edition_of a.format) a.editing a.area.now a.base c.in-Good.h
-      = good_header _ _ _ _ _ (sym c.check_header-headed.ensures ∙ c.in-Good.is) in
+    = good_header _ _ _ _ _ (sym c.check_header-headed.ensures ∙ c.in-Good.is) in
     let goes_on : let a = c.args in survey_in (edition_of a.format) a.editing a.area.now a.base a.w ≡ answered c.in-Good.h c.walk.result
-      = (    let g = good in
+    = (let g = good in
     simp (g.passed, ← c.summed.ensures, c.if-not-summed.false, walk-answers, ← g.same, ← c.walk.ensures)) in
     rw (goes_on, c.in-Broken.is)

@@ -1,5 +1,5 @@
 -- The invariant: what was counted and remembered, with what the rest of the walk tells, is what the whole tells; each entry took eight bytes or more.
-use Rattle.std.proofs.Common.{◌-◌, sym, ap, ◌∙◌, arith, rules}
+use Rattle.std.proofs.Common.{sym, ap, ◌∙◌, arith, rules}
 use Rattle.walk.specs.declared.cursor.Step.TheVariants.{Next}
 use Rattle.walk.proofs.Steps.{Tells, step_tells, told_from, told-first, told-last, told-void, told-live}
 use Rattle.walk.proofs.cursor.walk.Goals as goal
@@ -13,13 +13,13 @@ overflow_add-voids c = omega (arith, c.before.before.before.before.before.before
 pub loop-e-smaller-then-e-eq0 : goal.loop-e-smaller-then-e-eq0
 loop-e-smaller-then-e-eq0 c =
     let goes : let h = c.args.h in Tells h.version c.args.a.now h.used_size c.loop-e.c.at (Next c.in-Next.e c.in-Next.d)
-      = step_tells _ _ _ _ _ c.loop-e.invariant.0 (sym c.step.ensures ∙ c.in-Next.is) in
+    = step_tells _ _ _ _ _ c.loop-e.invariant.0 (sym c.step.ensures ∙ c.in-Next.is) in
     let t = goes in omega arith
 
 pub loop-e-preserved-then-e-eq0 : goal.loop-e-preserved-then-e-eq0
 loop-e-preserved-then-e-eq0 c =
     let goes : let h = c.args.h in Tells h.version c.args.a.now h.used_size c.loop-e.c.at (Next c.in-Next.e c.in-Next.d)
-      = step_tells _ _ _ _ _ c.loop-e.invariant.0 (sym c.step.ensures ∙ c.in-Next.is) in
+    = step_tells _ _ _ _ _ c.loop-e.invariant.0 (sym c.step.ensures ∙ c.in-Next.is) in
     let t = goes in
     let l = c.loop-e in (
       t.1,
@@ -33,13 +33,13 @@ overflow_add-live c = omega (arith, c.before.before.before.before.before.before.
 pub loop-e-smaller : goal.loop-e-smaller
 loop-e-smaller c =
     let goes : let h = c.args.h in Tells h.version c.args.a.now h.used_size c.loop-e.c.at (Next c.in-Next.e c.in-Next.d)
-      = step_tells _ _ _ _ _ c.loop-e.invariant.0 (sym c.step.ensures ∙ c.in-Next.is) in
+    = step_tells _ _ _ _ _ c.loop-e.invariant.0 (sym c.step.ensures ∙ c.in-Next.is) in
     let t = goes in omega arith
 
 pub loop-e-preserved : goal.loop-e-preserved
 loop-e-preserved c =
     let goes : let h = c.args.h in Tells h.version c.args.a.now h.used_size c.loop-e.c.at (Next c.in-Next.e c.in-Next.d)
-      = step_tells _ _ _ _ _ c.loop-e.invariant.0 (sym c.step.ensures ∙ c.in-Next.is) in
+    = step_tells _ _ _ _ _ c.loop-e.invariant.0 (sym c.step.ensures ∙ c.in-Next.is) in
     let t = goes in
     let l = c.loop-e in (
       t.1,

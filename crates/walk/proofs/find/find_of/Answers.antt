@@ -53,23 +53,23 @@ returns-in_default c =
 pub returns-then-refuses_tag : goal.returns-then-refuses_tag
 returns-then-refuses_tag c =
     let asked : let a = c.args in find_of (edition_of a.format) a.area.now a.base a.tag a.n ≡ cond c.refuses_tag.result (found.Refused Tag) (located c.in-Accepted.found)
-      = simp (find-survey, ← c.survey_of-surveyed.ensures, c.in-Accepted.is, ← c.refuses_tag.ensures) in
+    = simp (find-survey, ← c.survey_of-surveyed.ensures, c.in-Accepted.is, ← c.refuses_tag.ensures) in
     rw (asked, c.if-refuses_tag.true)
 
 pub returns-in_default-found : goal.returns-in_default-found
 returns-in_default-found c =
     let asked : let a = c.args in find_of (edition_of a.format) a.area.now a.base a.tag a.n ≡ cond c.refuses_tag.result (found.Refused Tag) (located c.in-Accepted.found)
-      = simp (find-survey, ← c.survey_of-surveyed.ensures, c.in-Accepted.is, ← c.refuses_tag.ensures) in
+    = simp (find-survey, ← c.survey_of-surveyed.ensures, c.in-Accepted.is, ← c.refuses_tag.ensures) in
     rw (asked, c.if-refuses_tag.false, c.in_default-found.is)
 
 pub overflow_add-result : goal.overflow_add-result
 overflow_add-result c =
     let asked : let a = c.args in find_of (edition_of a.format) a.area.now a.base a.tag a.n ≡ cond c.refuses_tag.result (found.Refused Tag) (located c.in-Accepted.found)
-      = simp (find-survey, ← c.survey_of-surveyed.ensures, c.in-Accepted.is, ← c.refuses_tag.ensures) in
+    = simp (find-survey, ← c.survey_of-surveyed.ensures, c.in-Accepted.is, ← c.refuses_tag.ensures) in
     let answers : let a = c.args in find_of (edition_of a.format) a.area.now a.base a.tag a.n ≡ located (At c.in-At.e)
-      = rw (asked, c.if-refuses_tag.false, c.in-At.is) in
+    = rw (asked, c.if-refuses_tag.false, c.in-At.is) in
     let near : data_offset c.in-At.e ≤ max_length
-      = (    let t = accepted_in _ _ _ _ _ _ _ _ (sym c.survey_of-surveyed.ensures ∙ c.in-Accepted.is) in
+    = (let t = accepted_in _ _ _ _ _ _ _ _ (sym c.survey_of-surveyed.ensures ∙ c.in-Accepted.is) in
     let u = (sound _ false _ _ _ t.checked).0.header.usable in
     let w = find-within _ _ _ _ _ _ _ answers in
     omega arith) in
@@ -78,11 +78,11 @@ overflow_add-result c =
 pub overflow_cast-result-2 : goal.overflow_cast-result-2
 overflow_cast-result-2 c =
     let asked : let a = c.args in find_of (edition_of a.format) a.area.now a.base a.tag a.n ≡ cond c.refuses_tag.result (found.Refused Tag) (located c.in-Accepted.found)
-      = simp (find-survey, ← c.survey_of-surveyed.ensures, c.in-Accepted.is, ← c.refuses_tag.ensures) in
+    = simp (find-survey, ← c.survey_of-surveyed.ensures, c.in-Accepted.is, ← c.refuses_tag.ensures) in
     let answers : let a = c.args in find_of (edition_of a.format) a.area.now a.base a.tag a.n ≡ located (At c.in-At.e)
-      = rw (asked, c.if-refuses_tag.false, c.in-At.is) in
+    = rw (asked, c.if-refuses_tag.false, c.in-At.is) in
     let near : data_offset c.in-At.e ≤ max_length
-      = (    let t = accepted_in _ _ _ _ _ _ _ _ (sym c.survey_of-surveyed.ensures ∙ c.in-Accepted.is) in
+    = (let t = accepted_in _ _ _ _ _ _ _ _ (sym c.survey_of-surveyed.ensures ∙ c.in-Accepted.is) in
     let u = (sound _ false _ _ _ t.checked).0.header.usable in
     let w = find-within _ _ _ _ _ _ _ answers in
     omega arith) in
@@ -91,7 +91,7 @@ overflow_cast-result-2 c =
 pub returns : goal.returns
 returns c =
     let asked : let a = c.args in find_of (edition_of a.format) a.area.now a.base a.tag a.n ≡ cond c.refuses_tag.result (found.Refused Tag) (located c.in-Accepted.found)
-      = simp (find-survey, ← c.survey_of-surveyed.ensures, c.in-Accepted.is, ← c.refuses_tag.ensures) in
+    = simp (find-survey, ← c.survey_of-surveyed.ensures, c.in-Accepted.is, ← c.refuses_tag.ensures) in
     let answers : let a = c.args in find_of (edition_of a.format) a.area.now a.base a.tag a.n ≡ located (At c.in-At.e)
-      = rw (asked, c.if-refuses_tag.false, c.in-At.is) in
+    = rw (asked, c.if-refuses_tag.false, c.in-At.is) in
     sym answers

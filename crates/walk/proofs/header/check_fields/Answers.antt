@@ -30,7 +30,7 @@ pub returns-then-refuses_sizes : goal.returns-then-refuses_sizes
 unfolding fields_refusal
 returns-then-refuses_sizes c =
     let sizes-decide : fields_refusal (edition_of c.args.format) c.args.editing c.args.len c.args.h ≡ cond c.refuses_sizes.result (some Sizes) none
-      = simp (
+    = simp (
       ← c.signature.ensures,
       eq-eqb _ _ c.if-h-signature.false,
       ne_eqb _ _ c.if-h-eq0.false,
@@ -44,7 +44,7 @@ pub returns : goal.returns
 unfolding fields_refusal
 returns c =
     let sizes-decide : fields_refusal (edition_of c.args.format) c.args.editing c.args.len c.args.h ≡ cond c.refuses_sizes.result (some Sizes) none
-      = simp (
+    = simp (
       ← c.signature.ensures,
       eq-eqb _ _ c.if-h-signature.false,
       ne_eqb _ _ c.if-h-eq0.false,

@@ -1,5 +1,5 @@
 -- The loop's invariant: n words change before `from`, and n with the words from there on are all; each found word is one of them.
-use Prim.Native.Nat.{ℕ, ◌+◌, ◌-◌, ◌≤◌}
+use Prim.Native.Nat.{ℕ, ◌+◌, ◌≤◌}
 use native.Mathlib.Omega.{arith}
 use mathlib.Core.List.{List}
 use Rattle.plan.specs.Plan.{after}
@@ -21,7 +21,7 @@ pub overflow_add-n : goal.overflow_add-n
 overflow_add-n c =
     let new : List ℕ = after c.args.p c.args.area.now c.args.«data».now in
     let on : let l = c.loop-p in let r = c.next_changed-w.result in (l.from ≤ r) × Counted c.args.area.now new (l.n + 1) (r + 8)
-      = (    let l = c.loop-p in
+    = (let l = c.loop-p in
     counted_one c.args.area.now new l.n l.from c.next_changed-w.result l.invariant c.next_changed-w.ensures c.if-w-len.false) in
     let s = on in omega arith
 
@@ -29,7 +29,7 @@ pub overflow_add-from : goal.overflow_add-from
 overflow_add-from c =
     let new : List ℕ = after c.args.p c.args.area.now c.args.«data».now in
     let on : let l = c.loop-p in let r = c.next_changed-w.result in (l.from ≤ r) × Counted c.args.area.now new (l.n + 1) (r + 8)
-      = (    let l = c.loop-p in
+    = (let l = c.loop-p in
     counted_one c.args.area.now new l.n l.from c.next_changed-w.result l.invariant c.next_changed-w.ensures c.if-w-len.false) in
     let s = on in omega arith
 
@@ -37,7 +37,7 @@ pub loop-p-smaller : goal.loop-p-smaller
 loop-p-smaller c =
     let new : List ℕ = after c.args.p c.args.area.now c.args.«data».now in
     let on : let l = c.loop-p in let r = c.next_changed-w.result in (l.from ≤ r) × Counted c.args.area.now new (l.n + 1) (r + 8)
-      = (    let l = c.loop-p in
+    = (let l = c.loop-p in
     counted_one c.args.area.now new l.n l.from c.next_changed-w.result l.invariant c.next_changed-w.ensures c.if-w-len.false) in
     let s = on in omega arith
 
@@ -45,6 +45,6 @@ pub loop-p-preserved : goal.loop-p-preserved
 loop-p-preserved c =
     let new : List ℕ = after c.args.p c.args.area.now c.args.«data».now in
     let on : let l = c.loop-p in let r = c.next_changed-w.result in (l.from ≤ r) × Counted c.args.area.now new (l.n + 1) (r + 8)
-      = (    let l = c.loop-p in
+    = (let l = c.loop-p in
     counted_one c.args.area.now new l.n l.from c.next_changed-w.result l.invariant c.next_changed-w.ensures c.if-w-len.false) in
     on.1

@@ -1,6 +1,6 @@
 -- The loop's invariant: no word from `from` up to `at` changes. Where the loop is left at `at`, the word there changes, or none does from there on.
 use mathlib.Core.Path.{◌∙◌}
-use Prim.Native.Nat.{ℕ, ◌+◌, ◌-◌}
+use Prim.Native.Nat.{ℕ, ◌+◌}
 use native.Mathlib.Omega.{arith}
 use mathlib.Core.List.{List}
 use Rattle.plan.specs.Plan.{after}
@@ -28,7 +28,7 @@ pub loop-at-smaller : goal.loop-at-smaller
 loop-at-smaller c =
     let new : List ℕ = after c.args.p c.args.area.now c.args.«data».now in
     let on : Skipped c.args.area.now new (c.loop-at.at + 8) c.skip-at-in-loop-at.result
-      = (    let a = c.args in
+    = (let a = c.args in
     skipped a.p a.area.now a.«data».now c.requires.0 (c.loop-at.at + 8) c.skip-at-in-loop-at.result
     (omega arith) (omega arith) c.skip-at-in-loop-at.ensures) in
     let s = on in omega arith
@@ -37,7 +37,7 @@ pub loop-at-preserved : goal.loop-at-preserved
 loop-at-preserved c =
     let new : List ℕ = after c.args.p c.args.area.now c.args.«data».now in
     let on : Skipped c.args.area.now new (c.loop-at.at + 8) c.skip-at-in-loop-at.result
-      = (    let a = c.args in
+    = (let a = c.args in
     skipped a.p a.area.now a.«data».now c.requires.0 (c.loop-at.at + 8) c.skip-at-in-loop-at.result
     (omega arith) (omega arith) c.skip-at-in-loop-at.ensures) in
     let s = on in
