@@ -6,7 +6,19 @@ use mathlib.Core.Option.{Option, none, some}
 use mathlib.Core.List.{List, [], ◌∷◌, ◌++◌}
 use lib.ListN.{drop, replicate}
 use Rattle.wire.specs.Bytes.{field, le_bytes}
-use Rattle.journal.specs.Journal.{Store, in_journal, in_area, memory, store_all, words_from, changed_words, edit_stores, commit_store, refuses_journal, recovery}
+use Rattle.journal.specs.Journal.{
+  Store,
+  in_journal,
+  in_area,
+  memory,
+  store_all,
+  words_from,
+  changed_words,
+  edit_stores,
+  commit_store,
+  refuses_journal,
+  recovery,
+}
 
 -- ---- bytes
 

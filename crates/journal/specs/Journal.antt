@@ -1,6 +1,30 @@
 -- Document 02, request 9, "Power cut in the middle of an edit": the journal, the single stores of an edit and of a recovery, refusal 16 and
 -- recovery's 17. Nothing here knows what a transfer list is: an edit is the old area and the new one.
-use Rattle.std.specs.Prelude.{ℕ, zero, suc, ◌+◌, ◌*◌, ◌/◌, ◌%◌, Bool, true, not, ◌&&◌, ◌||◌, cond, List, [], ◌∷◌, ◌++◌, length, get_or, set, replicate, leb, eqb}
+use Rattle.std.specs.Prelude.{
+  ℕ,
+  zero,
+  suc,
+  ◌+◌,
+  ◌*◌,
+  ◌/◌,
+  ◌%◌,
+  Bool,
+  true,
+  not,
+  ◌&&◌,
+  ◌||◌,
+  cond,
+  List,
+  [],
+  ◌∷◌,
+  ◌++◌,
+  length,
+  get_or,
+  set,
+  replicate,
+  leb,
+  eqb,
+}
 use Rattle.std.proofs.Math.Option.{Option, none, some, map}
 use Rattle.wire.specs.Bytes.{field, le_bytes}
 

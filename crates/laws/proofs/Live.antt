@@ -36,7 +36,8 @@ unfolding live_in live_count
 live-length a [] = refl
 live-length a (e ∷ es) = go (is_void e) (live-length a es)
   where
-    go : (v : Bool) → length (live_in a es) ≡ live_count es → length (cond v (live_in a es) (live_at a e ∷ live_in a es)) ≡ cond v (live_count es) (1 + live_count es)
+    go : (v : Bool) → length (live_in a es) ≡ live_count es
+        → length (cond v (live_in a es) (live_at a e ∷ live_in a es)) ≡ cond v (live_count es) (1 + live_count es)
     go true h = h
     go false h = omega arith
 

@@ -54,7 +54,8 @@ written_header c p tag n ht hn w =
     let r : Written c (p + 3) x = written_right c p (le_bytes 3 tag) x 3 (length-le_bytes 3 tag) w in
     let s : field c (p + 3) 1 ≡ 8 = written_field c (p + 3) 1 8 (omega arith) (written_left c (p + 3) (le_bytes 1 8) (le_bytes 4 n) r) in
     let q : p + 3 + 1 ≡ p + 4 = omega arith in
-    let d : field c (p + 4) 4 ≡ n = written_field c (p + 4) 4 n hn (rw q at (written_right c (p + 3) (le_bytes 1 8) (le_bytes 4 n) 1 (length-le_bytes 1 8) r)) in
+    let d : field c (p + 4) 4 ≡ n =
+    written_field c (p + 4) 4 n hn (rw q at (written_right c (p + 3) (le_bytes 1 8) (le_bytes 4 n) 1 (length-le_bytes 1 8) r)) in
     rw (t, s, d)
 
 -- a void whose header stands there is not read

@@ -116,7 +116,8 @@ start_is m = outer (records m.journal)
     inner true n (suc zero) none = rw (ne_eqb (suc n) 0 (λ e. omega (arith, e)))
     inner true n (suc zero) (some ws) = last (fits len (word_at j 0 ∷ ws))
       where
-        last : (b : Bool) → begin_with true (suc n) (cond b 1 2) true ≡ beginning (cond b (some (apply_stores (word_at j 0 ∷ ws) ++ clear_stores 0 (suc n))) none)
+        last : (b : Bool)
+            → begin_with true (suc n) (cond b 1 2) true ≡ beginning (cond b (some (apply_stores (word_at j 0 ∷ ws) ++ clear_stores 0 (suc n))) none)
         last true = rw (ne_eqb (suc n) 0 (λ e. omega (arith, e)))
         last false = refl
     inner true n (suc (suc zero)) r = rw (ne_eqb (suc n) 0 (λ e. omega (arith, e)))

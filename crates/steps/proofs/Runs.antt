@@ -173,9 +173,10 @@ module _ (content : List ℕ) (s : Steps) where
   goes_apply w (v ∷ ws) i x len m h n f e =
       let r : List Store = rising in_area w.offset w.bytes in
       let k : (store_all r m).journal ≡ m.journal = journal_kept r m (rising-area w.offset w.bytes) in
+      let h' : Committed (store_all r m).journal (i + 1) (v ∷ ws) = subst (λ (l : List ℕ). Committed l (i + 1) (v ∷ ws)) (sym k) h.2 in
       goes_on content r (apply_stores (v ∷ ws)) (stand s applying i 0 x) (stand s applying (i + 1) 0 x) (stand s clearing 0 0 x) m
       (rw (next_word i x m.journal h.2.0 (omega arith)) at (goes_word i x w m (omega arith) h.1 (omega (arith, f.0.inside))))
-      (goes_apply v ws (i + 1) x len (store_all r m) (subst (λ (l : List ℕ). Committed l (i + 1) (v ∷ ws)) (sym k) h.2) (rw k (omega arith)) f.1 (length-area r m ∙ e))
+      (goes_apply v ws (i + 1) x len (store_all r m) h' (rw k (omega arith)) f.1 (length-area r m ∙ e))
 
   -- where the words and the commit are in the journal: apply, then clear
   pub goes_tail : (w : Word) (ws : List Word) (n len : ℕ) (m : Memory) → Committed m.journal 0 (w ∷ ws) → AllFine len (w ∷ ws) → length m.area ≡ len

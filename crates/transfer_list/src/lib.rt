@@ -1,9 +1,10 @@
-// The functions that are shipped, for Rattle; `transfer_list_c` exports them to C, but for find's second forms. Each is thin and has the whole statement: no requires, an
-// equation for the answer and one for each buffer that is lent for writing. What an edit is promised to do is one record, `Promised`:
-// its answer is that of the written rules, so is every lent byte afterwards, and where the number is 0 all of demand 3 holds. What a
-// conversion is promised to do is `ConvertPromised`, likewise, with what holds of a converted list. The rules of the device tree's
-// functions are relations, each of which settles the answer: `checked-only`, `lookup-only`, `part-only`. Of request 9's calls, `Begins` is what
-// holds of the steps that a call has decided on, and `Journalled` what a whole form is promised to do; a step and a recovery have equations.
+// The functions that are shipped, for Rattle; `transfer_list_c` exports them to C, but for find's second forms. Each is thin and has the
+// whole statement: no requires, an equation for the answer and one for each buffer that is lent for writing. What an edit is promised to do
+// is one record, `Promised`: its answer is that of the written rules, so is every lent byte afterwards, and where the number is 0 all of
+// demand 3 holds. What a conversion is promised to do is `ConvertPromised`, likewise, with what holds of a converted list. The rules of the
+// device tree's functions are relations, each of which settles the answer: `checked-only`, `lookup_only`, `part-only`. Of request 9's calls,
+// `Begins` is what holds of the steps that a call has decided on, and `Journalled` what a whole form is promised to do; a step and a
+// recovery have equations.
 #![tactic(auto)]
 
 ghost use Rattle.std.specs.Prelude.{◌≡◌, ◌+◌, []};

@@ -1,5 +1,28 @@
 -- What a step of the cursor tells of the walk, and what an entry adds to the counts and to the memory.
-use Rattle.std.proofs.Common.{◌≡◌, ℕ, ◌+◌, ◌-◌, ◌<◌, ◌≤◌, Bool, true, false, cond, eqb, List, [], ◌∷◌, refl, subst, add-zero, zero-add, arith, eq-eqb, ne_eqb, eqb-true}
+use Rattle.std.proofs.Common.{
+  ◌≡◌,
+  ℕ,
+  ◌+◌,
+  ◌-◌,
+  ◌<◌,
+  ◌≤◌,
+  Bool,
+  true,
+  false,
+  cond,
+  eqb,
+  List,
+  [],
+  ◌∷◌,
+  refl,
+  subst,
+  add-zero,
+  zero-add,
+  arith,
+  eq-eqb,
+  ne_eqb,
+  eqb-true,
+}
 use borrow.Author.Tests.{eqb-false}
 use Rattle.rules.specs.declared.Entry.{Entry}
 use Rattle.rules.specs.Entries.{

@@ -1,5 +1,28 @@
 -- Laws of a word folded into a byte, the exclusive or of the word's bytes, over any width; and of stretches one behind the other.
-use Rattle.std.proofs.Common.{◌≡◌, ℕ, zero, suc, ◌+◌, ◌*◌, ◌/◌, ◌%◌, ◌^◌, ◌≤◌, List, length, take, drop, sym, refl, ap, ◌∙◌, mul-one, mul-add, drop-drop, take-add}
+use Rattle.std.proofs.Common.{
+  ◌≡◌,
+  ℕ,
+  zero,
+  suc,
+  ◌+◌,
+  ◌*◌,
+  ◌/◌,
+  ◌%◌,
+  ◌^◌,
+  ◌≤◌,
+  List,
+  length,
+  take,
+  drop,
+  sym,
+  refl,
+  ap,
+  ◌∙◌,
+  mul-one,
+  mul-add,
+  drop-drop,
+  take-add,
+}
 use lib.Bits.{bit_xor, xor_zero_r, xor_comm, xor_mod, xor_shr}
 use Rattle.wire.specs.Bytes.{field, le_bytes, xor}
 use Rattle.wire.proofs.Range.{Bytes}

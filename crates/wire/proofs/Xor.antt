@@ -1,5 +1,32 @@
 -- Laws of the exclusive or of numbers, of lists of bytes, and of a list with a stretch replaced.
-use Rattle.std.proofs.Common.{◌≡◌, ℕ, zero, suc, ◌+◌, ◌*◌, ◌/◌, ◌%◌, ◌<◌, List, [], ◌∷◌, ◌++◌, length, get_or, take, drop, replicate, sym, refl, ap, ◌∙◌, ap₂, add-one, arith, take-suc}
+use Rattle.std.proofs.Common.{
+  ◌≡◌,
+  ℕ,
+  zero,
+  suc,
+  ◌+◌,
+  ◌*◌,
+  ◌/◌,
+  ◌%◌,
+  ◌<◌,
+  List,
+  [],
+  ◌∷◌,
+  ◌++◌,
+  length,
+  get_or,
+  take,
+  drop,
+  replicate,
+  sym,
+  refl,
+  ap,
+  ◌∙◌,
+  ap₂,
+  add-one,
+  arith,
+  take-suc,
+}
 use lib.Arith.{bin_ind}
 use lib.Bits as bits
 use lib.Bits.{bit_xor, differ, xor_step, xor_zero_l, xor_zero_r, xor_comm, xor_self}

@@ -31,7 +31,9 @@ pub returns-in_default-place : goal.returns-in_default-place
 returns-in_default-place c =
     let admitted : AdmittedIn edition09 c.args.area.now c.args.base c.in-Accepted.h
     = admitted_in edition09 _ _ _ _ _ _ (sym c.survey_of-surveyed.ensures ∙ c.in-Accepted.is) in
-    let ruled : let a = c.args in convert_rule a.area.now a.base a.target.now a.target_base ≡ outcome_at (λ (by : ℕ). converted_bytes a.area.now by (length a.target.now)) c.find_place-place.result
+    let ruled : let a = c.args in
+    convert_rule a.area.now a.base a.target.now a.target_base
+    ≡ outcome_at (λ (by : ℕ). converted_bytes a.area.now by (length a.target.now)) c.find_place-place.result
     = (let t = (accepted_in edition09 _ _ _ _ _ _ _ (sym c.survey_of-surveyed.ensures ∙ c.in-Accepted.is)).checked in
     convert-placed _ _ _ _ _ _ t admitted.header ∙ ap (outcome_at _) (sym c.find_place-place.ensures)) in
     let k = c.in_default-place.is in
@@ -58,7 +60,9 @@ pub returns : goal.returns
 returns c =
     let admitted : AdmittedIn edition09 c.args.area.now c.args.base c.in-Accepted.h
     = admitted_in edition09 _ _ _ _ _ _ (sym c.survey_of-surveyed.ensures ∙ c.in-Accepted.is) in
-    let ruled : let a = c.args in convert_rule a.area.now a.base a.target.now a.target_base ≡ outcome_at (λ (by : ℕ). converted_bytes a.area.now by (length a.target.now)) c.find_place-place.result
+    let ruled : let a = c.args in
+    convert_rule a.area.now a.base a.target.now a.target_base
+    ≡ outcome_at (λ (by : ℕ). converted_bytes a.area.now by (length a.target.now)) c.find_place-place.result
     = (let t = (accepted_in edition09 _ _ _ _ _ _ _ (sym c.survey_of-surveyed.ensures ∙ c.in-Accepted.is)).checked in
     convert-placed _ _ _ _ _ _ t admitted.header ∙ ap (outcome_at _) (sym c.find_place-place.ensures)) in
     let e = ruled ∙ ap (outcome_at _) c.in-At.is in

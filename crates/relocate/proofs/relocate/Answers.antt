@@ -32,7 +32,9 @@ pub returns-in_default-place : goal.returns-in_default-place
 returns-in_default-place c =
     let admitted : Admitted c.args.area.now c.args.base c.in-Accepted.h
     = survey.admitted _ _ _ _ _ _ (sym c.survey-surveyed.ensures ∙ c.in-Accepted.is) in
-    let ruled : let a = c.args in run (to_relocate a.target.now a.target_base) a.area.now a.base ≡ outcome_at (λ (by : ℕ). target_bytes a.area.now by (length a.target.now)) c.find_place-place.result
+    let ruled : let a = c.args in
+    run (to_relocate a.target.now a.target_base) a.area.now a.base
+    ≡ outcome_at (λ (by : ℕ). target_bytes a.area.now by (length a.target.now)) c.find_place-place.result
     = (let t = (survey.accepted _ _ _ _ _ _ _ (sym c.survey-surveyed.ensures ∙ c.in-Accepted.is)).checked in
     simp t (relocate-placed _ _ _ _ _ admitted.header) ∙ ap (outcome_at _) (sym c.find_place-place.ensures)) in
     let k = c.in_default-place.is in
@@ -59,7 +61,9 @@ pub returns : goal.returns
 returns c =
     let admitted : Admitted c.args.area.now c.args.base c.in-Accepted.h
     = survey.admitted _ _ _ _ _ _ (sym c.survey-surveyed.ensures ∙ c.in-Accepted.is) in
-    let ruled : let a = c.args in run (to_relocate a.target.now a.target_base) a.area.now a.base ≡ outcome_at (λ (by : ℕ). target_bytes a.area.now by (length a.target.now)) c.find_place-place.result
+    let ruled : let a = c.args in
+    run (to_relocate a.target.now a.target_base) a.area.now a.base
+    ≡ outcome_at (λ (by : ℕ). target_bytes a.area.now by (length a.target.now)) c.find_place-place.result
     = (let t = (survey.accepted _ _ _ _ _ _ _ (sym c.survey-surveyed.ensures ∙ c.in-Accepted.is)).checked in
     simp t (relocate-placed _ _ _ _ _ admitted.header) ∙ ap (outcome_at _) (sym c.find_place-place.ensures)) in
     let e = ruled ∙ ap (outcome_at _) c.in-At.is in

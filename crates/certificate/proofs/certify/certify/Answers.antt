@@ -20,19 +20,22 @@ returns-in_default c =
 
 pub returns-in_default-first : goal.returns-in_default-first
 returns-in_default-first c =
-    let accepts : let a = c.args in survey_of false a.area.now a.base (certificate_wanted 0) ≡ Accepted c.in-Accepted.field-0 c.in-Accepted.h c.in-Accepted.first
+    let accepts : let a = c.args in
+    survey_of false a.area.now a.base (certificate_wanted 0) ≡ Accepted c.in-Accepted.field-0 c.in-Accepted.h c.in-Accepted.first
     = ap (survey_of false _ _) (sym c.wanted.ensures) ∙ sym c.survey-surveyed.ensures ∙ c.in-Accepted.is in
     sym (none-there _ _ _ _ _ accepts _ _ c.in_default-first.is)
 
 pub seek-requires : goal.seek-requires
 seek-requires c =
-    let accepts : let a = c.args in survey_of false a.area.now a.base (certificate_wanted 0) ≡ Accepted c.in-Accepted.field-0 c.in-Accepted.h c.in-Accepted.first
+    let accepts : let a = c.args in
+    survey_of false a.area.now a.base (certificate_wanted 0) ≡ Accepted c.in-Accepted.field-0 c.in-Accepted.h c.in-Accepted.first
     = ap (survey_of false _ _) (sym c.wanted.ensures) ∙ sym c.survey-surveyed.ensures ∙ c.in-Accepted.is in
     searchable _ _ _ _ _ accepts
 
 pub returns-in_default-seek : goal.returns-in_default-seek
 returns-in_default-seek c =
-    let accepts : let a = c.args in survey_of false a.area.now a.base (certificate_wanted 0) ≡ Accepted c.in-Accepted.field-0 c.in-Accepted.h c.in-Accepted.first
+    let accepts : let a = c.args in
+    survey_of false a.area.now a.base (certificate_wanted 0) ≡ Accepted c.in-Accepted.field-0 c.in-Accepted.h c.in-Accepted.first
     = ap (survey_of false _ _) (sym c.wanted.ensures) ∙ sym c.survey-surveyed.ensures ∙ c.in-Accepted.is in
     let sought-second : c.seek.result ≡ sought_in c.args.area.now 1
     = c.seek.ensures ∙ ap (λ (w : Wanted). sought (wanted_of w (entries_of c.args.area.now))) c.wanted-2.ensures in
@@ -40,13 +43,15 @@ returns-in_default-seek c =
 
 pub certify_entry-requires : goal.certify_entry-requires
 certify_entry-requires c =
-    let accepts : let a = c.args in survey_of false a.area.now a.base (certificate_wanted 0) ≡ Accepted c.in-Accepted.field-0 c.in-Accepted.h c.in-Accepted.first
+    let accepts : let a = c.args in
+    survey_of false a.area.now a.base (certificate_wanted 0) ≡ Accepted c.in-Accepted.field-0 c.in-Accepted.h c.in-Accepted.first
     = ap (survey_of false _ _) (sym c.wanted.ensures) ∙ sym c.survey-surveyed.ensures ∙ c.in-Accepted.is in
     within _ _ _ _ _ accepts _ c.in-At.is
 
 pub returns : goal.returns
 returns c =
-    let accepts : let a = c.args in survey_of false a.area.now a.base (certificate_wanted 0) ≡ Accepted c.in-Accepted.field-0 c.in-Accepted.h c.in-Accepted.first
+    let accepts : let a = c.args in
+    survey_of false a.area.now a.base (certificate_wanted 0) ≡ Accepted c.in-Accepted.field-0 c.in-Accepted.h c.in-Accepted.first
     = ap (survey_of false _ _) (sym c.wanted.ensures) ∙ sym c.survey-surveyed.ensures ∙ c.in-Accepted.is in
     let sought-second : c.seek.result ≡ sought_in c.args.area.now 1
     = c.seek.ensures ∙ ap (λ (w : Wanted). sought (wanted_of w (entries_of c.args.area.now))) c.wanted-2.ensures in

@@ -42,7 +42,8 @@ returns-then-refuses_shape c =
     let at_end : Outcome = (let a = c.args in add_aligned_at_end a.area.now a.base a.tag a.«data».now a.exponent) in
     let ran : let a = c.args in ruled ≡ add_aligned a.area.now a.base a.tag a.«data».now a.exponent
     = simp (survey.accepted _ _ _ _ _ _ _ (sym c.survey-surveyed.ensures ∙ c.in-Accepted.is)).checked in
-    let tagged : let a = c.args in ruled ≡ cond (refuses_shape a.tag (length a.«data».now)) (refused Shape) (cond (refuses_align a.exponent) (refused Align) at_end)
+    let tagged : let a = c.args in
+    ruled ≡ cond (refuses_shape a.tag (length a.«data».now)) (refused Shape) (cond (refuses_align a.exponent) (refused Align) at_end)
     = ran ∙ simp (← c.refuses_tag_add.ensures, c.if-refuses_tag_add.false) in
     let d = decides_refused _ _ _ _ _ (tagged ∙ simp (← c.refuses_shape.ensures, c.if-refuses_shape.true)) in
     record { decides = d.0; value = d.1 }
@@ -54,7 +55,8 @@ returns-then-refuses_align c =
     let at_end : Outcome = (let a = c.args in add_aligned_at_end a.area.now a.base a.tag a.«data».now a.exponent) in
     let ran : let a = c.args in ruled ≡ add_aligned a.area.now a.base a.tag a.«data».now a.exponent
     = simp (survey.accepted _ _ _ _ _ _ _ (sym c.survey-surveyed.ensures ∙ c.in-Accepted.is)).checked in
-    let tagged : let a = c.args in ruled ≡ cond (refuses_shape a.tag (length a.«data».now)) (refused Shape) (cond (refuses_align a.exponent) (refused Align) at_end)
+    let tagged : let a = c.args in
+    ruled ≡ cond (refuses_shape a.tag (length a.«data».now)) (refused Shape) (cond (refuses_align a.exponent) (refused Align) at_end)
     = ran ∙ simp (← c.refuses_tag_add.ensures, c.if-refuses_tag_add.false) in
     let shaped : ruled ≡ cond (refuses_align c.args.exponent) (refused Align) at_end
     = tagged ∙ simp (← c.refuses_shape.ensures, c.if-refuses_shape.false) in
@@ -109,7 +111,8 @@ returns c =
     let at_end : Outcome = (let a = c.args in add_aligned_at_end a.area.now a.base a.tag a.«data».now a.exponent) in
     let ran : let a = c.args in ruled ≡ add_aligned a.area.now a.base a.tag a.«data».now a.exponent
     = simp (survey.accepted _ _ _ _ _ _ _ (sym c.survey-surveyed.ensures ∙ c.in-Accepted.is)).checked in
-    let tagged : let a = c.args in ruled ≡ cond (refuses_shape a.tag (length a.«data».now)) (refused Shape) (cond (refuses_align a.exponent) (refused Align) at_end)
+    let tagged : let a = c.args in
+    ruled ≡ cond (refuses_shape a.tag (length a.«data».now)) (refused Shape) (cond (refuses_align a.exponent) (refused Align) at_end)
     = ran ∙ simp (← c.refuses_tag_add.ensures, c.if-refuses_tag_add.false) in
     let shaped : ruled ≡ cond (refuses_align c.args.exponent) (refused Align) at_end
     = tagged ∙ simp (← c.refuses_shape.ensures, c.if-refuses_shape.false) in

@@ -29,7 +29,8 @@ returns-in_default c =
 pub returns-then-refuses_tag : goal.returns-then-refuses_tag
 unfolding void
 returns-then-refuses_tag c =
-    let told : let a = c.args in survey.Accepts true a.area.now a.base (record { tag = a.tag; least = 0; n = a.n }) c.in-Accepted.field-0 c.in-Accepted.h c.in-Accepted.found
+    let told : let a = c.args in
+    survey.Accepts true a.area.now a.base (record { tag = a.tag; least = 0; n = a.n }) c.in-Accepted.field-0 c.in-Accepted.h c.in-Accepted.found
     = survey.accepted _ _ _ _ _ _ _ (sym c.survey-surveyed.ensures ∙ c.in-Accepted.is) in
     let d = decides_refused _ _ _ _ _ (simp (told.checked, ← c.refuses_tag.ensures, c.if-refuses_tag.true)) in
     record { decides = d.0; value = d.1 }
@@ -38,7 +39,8 @@ pub returns-in_default-found : goal.returns-in_default-found
 unfolding void
 returns-in_default-found c =
     let ruled : Outcome = (let a = c.args in run (to_void a.tag a.n) a.area.now a.base) in
-    let told : let a = c.args in survey.Accepts true a.area.now a.base (record { tag = a.tag; least = 0; n = a.n }) c.in-Accepted.field-0 c.in-Accepted.h c.in-Accepted.found
+    let told : let a = c.args in
+    survey.Accepts true a.area.now a.base (record { tag = a.tag; least = 0; n = a.n }) c.in-Accepted.field-0 c.in-Accepted.h c.in-Accepted.found
     = survey.accepted _ _ _ _ _ _ _ (sym c.survey-surveyed.ensures ∙ c.in-Accepted.is) in
     let tagged : let a = c.args in ruled ≡ void_at a.area.now (occurrence a.tag a.n (entries_of a.area.now))
     = simp (told.checked, ← c.refuses_tag.ensures, c.if-refuses_tag.false) in
@@ -50,7 +52,8 @@ returns-in_default-found c =
 
 pub void_plan-requires : goal.void_plan-requires
 void_plan-requires c =
-    let told : let a = c.args in survey.Accepts true a.area.now a.base (record { tag = a.tag; least = 0; n = a.n }) c.in-Accepted.field-0 c.in-Accepted.h c.in-Accepted.found
+    let told : let a = c.args in
+    survey.Accepts true a.area.now a.base (record { tag = a.tag; least = 0; n = a.n }) c.in-Accepted.field-0 c.in-Accepted.h c.in-Accepted.found
     = survey.accepted _ _ _ _ _ _ _ (sym c.survey-surveyed.ensures ∙ c.in-Accepted.is) in
     let met : let a = c.args in c.in-Accepted.found ≡ sought (occurrence a.tag a.n (entries_of a.area.now))
     = rw occurrence_wanted told.found in
@@ -67,7 +70,8 @@ pub with_checksum-requires : goal.with_checksum-requires
 with_checksum-requires c =
     let admitted : Admitted c.args.area.now c.args.base c.in-Accepted.h
     = survey.admitted _ _ _ _ _ _ (sym c.survey-surveyed.ensures ∙ c.in-Accepted.is) in
-    let told : let a = c.args in survey.Accepts true a.area.now a.base (record { tag = a.tag; least = 0; n = a.n }) c.in-Accepted.field-0 c.in-Accepted.h c.in-Accepted.found
+    let told : let a = c.args in
+    survey.Accepts true a.area.now a.base (record { tag = a.tag; least = 0; n = a.n }) c.in-Accepted.field-0 c.in-Accepted.h c.in-Accepted.found
     = survey.accepted _ _ _ _ _ _ _ (sym c.survey-surveyed.ensures ∙ c.in-Accepted.is) in
     let met : let a = c.args in c.in-Accepted.found ≡ sought (occurrence a.tag a.n (entries_of a.area.now))
     = rw occurrence_wanted told.found in
@@ -82,7 +86,8 @@ pub returns : goal.returns
 unfolding void
 returns c =
     let ruled : Outcome = (let a = c.args in run (to_void a.tag a.n) a.area.now a.base) in
-    let told : let a = c.args in survey.Accepts true a.area.now a.base (record { tag = a.tag; least = 0; n = a.n }) c.in-Accepted.field-0 c.in-Accepted.h c.in-Accepted.found
+    let told : let a = c.args in
+    survey.Accepts true a.area.now a.base (record { tag = a.tag; least = 0; n = a.n }) c.in-Accepted.field-0 c.in-Accepted.h c.in-Accepted.found
     = survey.accepted _ _ _ _ _ _ _ (sym c.survey-surveyed.ensures ∙ c.in-Accepted.is) in
     let tagged : let a = c.args in ruled ≡ void_at a.area.now (occurrence a.tag a.n (entries_of a.area.now))
     = simp (told.checked, ← c.refuses_tag.ensures, c.if-refuses_tag.false) in

@@ -14,7 +14,12 @@ returns-then-journal-following c = simp (le-ltb _ _ c.if-byte-lt7.false, le-ltb 
 pub returns-then-journal-following-eq1 : goal.returns-then-journal-following-eq1
 unfolding after_apply
 returns-then-journal-following-eq1 c =
-    simp (le-ltb _ _ c.if-byte-lt7.false, lt-ltb _ _ c.if-journal-following.false, eq-eqb _ _ c.if-journal-following-eq1.true, c.stand-then-journal-following-eq1.ensures)
+    simp (
+      le-ltb _ _ c.if-byte-lt7.false,
+      lt-ltb _ _ c.if-journal-following.false,
+      eq-eqb _ _ c.if-journal-following-eq1.true,
+      c.stand-then-journal-following-eq1.ensures,
+    )
 
 pub returns : goal.returns
 unfolding after_apply

@@ -52,19 +52,22 @@ returns-in_default c =
 
 pub returns-then-refuses_tag : goal.returns-then-refuses_tag
 returns-then-refuses_tag c =
-    let asked : let a = c.args in find_of (edition_of a.format) a.area.now a.base a.tag a.n ≡ cond c.refuses_tag.result (found.Refused Tag) (located c.in-Accepted.found)
+    let asked : let a = c.args in
+    find_of (edition_of a.format) a.area.now a.base a.tag a.n ≡ cond c.refuses_tag.result (found.Refused Tag) (located c.in-Accepted.found)
     = simp (find-survey, ← c.survey_of-surveyed.ensures, c.in-Accepted.is, ← c.refuses_tag.ensures) in
     rw (asked, c.if-refuses_tag.true)
 
 pub returns-in_default-found : goal.returns-in_default-found
 returns-in_default-found c =
-    let asked : let a = c.args in find_of (edition_of a.format) a.area.now a.base a.tag a.n ≡ cond c.refuses_tag.result (found.Refused Tag) (located c.in-Accepted.found)
+    let asked : let a = c.args in
+    find_of (edition_of a.format) a.area.now a.base a.tag a.n ≡ cond c.refuses_tag.result (found.Refused Tag) (located c.in-Accepted.found)
     = simp (find-survey, ← c.survey_of-surveyed.ensures, c.in-Accepted.is, ← c.refuses_tag.ensures) in
     rw (asked, c.if-refuses_tag.false, c.in_default-found.is)
 
 pub overflow_add-result : goal.overflow_add-result
 overflow_add-result c =
-    let asked : let a = c.args in find_of (edition_of a.format) a.area.now a.base a.tag a.n ≡ cond c.refuses_tag.result (found.Refused Tag) (located c.in-Accepted.found)
+    let asked : let a = c.args in
+    find_of (edition_of a.format) a.area.now a.base a.tag a.n ≡ cond c.refuses_tag.result (found.Refused Tag) (located c.in-Accepted.found)
     = simp (find-survey, ← c.survey_of-surveyed.ensures, c.in-Accepted.is, ← c.refuses_tag.ensures) in
     let answers : let a = c.args in find_of (edition_of a.format) a.area.now a.base a.tag a.n ≡ located (At c.in-At.e)
     = rw (asked, c.if-refuses_tag.false, c.in-At.is) in
@@ -77,7 +80,8 @@ overflow_add-result c =
 
 pub overflow_cast-result-2 : goal.overflow_cast-result-2
 overflow_cast-result-2 c =
-    let asked : let a = c.args in find_of (edition_of a.format) a.area.now a.base a.tag a.n ≡ cond c.refuses_tag.result (found.Refused Tag) (located c.in-Accepted.found)
+    let asked : let a = c.args in
+    find_of (edition_of a.format) a.area.now a.base a.tag a.n ≡ cond c.refuses_tag.result (found.Refused Tag) (located c.in-Accepted.found)
     = simp (find-survey, ← c.survey_of-surveyed.ensures, c.in-Accepted.is, ← c.refuses_tag.ensures) in
     let answers : let a = c.args in find_of (edition_of a.format) a.area.now a.base a.tag a.n ≡ located (At c.in-At.e)
     = rw (asked, c.if-refuses_tag.false, c.in-At.is) in
@@ -90,7 +94,8 @@ overflow_cast-result-2 c =
 
 pub returns : goal.returns
 returns c =
-    let asked : let a = c.args in find_of (edition_of a.format) a.area.now a.base a.tag a.n ≡ cond c.refuses_tag.result (found.Refused Tag) (located c.in-Accepted.found)
+    let asked : let a = c.args in
+    find_of (edition_of a.format) a.area.now a.base a.tag a.n ≡ cond c.refuses_tag.result (found.Refused Tag) (located c.in-Accepted.found)
     = simp (find-survey, ← c.survey_of-surveyed.ensures, c.in-Accepted.is, ← c.refuses_tag.ensures) in
     let answers : let a = c.args in find_of (edition_of a.format) a.area.now a.base a.tag a.n ≡ located (At c.in-At.e)
     = rw (asked, c.if-refuses_tag.false, c.in-At.is) in
