@@ -26,12 +26,12 @@ PREFIX = /usr/local
 CFLAGS = -O2 -Wall -Wextra -pedantic -Werror
 
 LIB = target/staticlib/libtransfer_list.a
-SOURCES = crates.txt $(shell find crates -name '*.rt' -o -name '*.antt')
+SOURCES = crates.txt $(shell find crates -name out -prune -o \( -name '*.rt' -o -name '*.antt' \) -print)
 TIMED = target/staticlib/libtimed.a
 C_FLAGS = -std=c99 $(CFLAGS) -Iinclude
 CARGO = cargo build --quiet --release --offline
 
-.PHONY: run show test lib install ctest cuts compare compare-large fdt-compare bench fmt-check header-check symbols-check oracle-test size
+.PHONY: run show test lib install ctest cuts compare compare-large fdt-compare bench header-check symbols-check oracle-test size
 
 run: target/demo/paper target/demo/boot target/demo/power target/demo/flush target/demo/edition09
 	target/demo/paper
@@ -43,16 +43,21 @@ run: target/demo/paper target/demo/boot target/demo/power target/demo/flush targ
 show: target/demo/show
 	target/demo/show $(FILE) $(BASE)
 
-test: fmt-check header-check symbols-check ctest oracle-test compare run
+test: header-check symbols-check ctest oracle-test compare run
 	rt ci
 
 lib: $(LIB)
 
+# the crate of the exports is transfer_list_c; the archive keeps its name
 $(LIB): $(SOURCES)
-	rt staticlib transfer_list
+	cd crates/transfer_list_c && rt lib
+	mkdir -p target/staticlib
+	cp crates/transfer_list_c/out/libtransfer_list_c.a $@
 
 $(TIMED): $(SOURCES)
-	rt staticlib timed
+	cd crates/timed && rt lib
+	mkdir -p target/staticlib
+	cp crates/timed/out/libtimed.a $@
 
 target/demo/%: demo/%.c demo/table.c demo/table.h include/transfer_list.h $(LIB)
 	mkdir -p target/demo
@@ -116,9 +121,6 @@ bench: $(LIB) $(TIMED)
 	bench/place $(SHIFT) $(TIMED) target/bench/lib/libtimed.a
 	TL_LIB_DIR=$(CURDIR)/target/bench/lib RUSTFLAGS='-C llvm-args=-align-all-functions=6' $(CARGO) --manifest-path bench/Cargo.toml --target-dir target/bench
 	target/bench/release/bench
-
-fmt-check:
-	rt fmt --check
 
 # the header is C99 and C++
 header-check:
