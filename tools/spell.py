@@ -114,7 +114,7 @@ def main():
 
     def source(text):
         """A source file: only names of clauses have capitals behind a small letter, or dashes."""
-        return re.sub(r'"[^"\n]*"|' + TOKEN.pattern, lambda m: m.group(0) if m.group(0)[0] == '"' else turn_token(m), text)
+        return re.sub(r'"(?:[^"\\]|\\.)*"|' + TOKEN.pattern, lambda m: m.group(0) if m.group(0)[0] == '"' else turn_token(m), text, flags=re.S)
 
     for p in files((".antt", ".rt", ".edit")):
         with open(p, encoding="utf-8") as f:

@@ -9,181 +9,189 @@
 
 use rules::certificate::{Certificate, Gate};
 use rules::{CheckAnswer, Done, DoneAnswer, FindAnswer};
+use std::io;
+use std::io::{BufWriter, Write};
 use steps::Stepped;
 
-fn number(n: u32) {
-    io::write_all(1, b" ");
-    io::print_decimal(1, n as u64);
+fn number(out: &mut impl Write, n: u32) -> io::Result<()> {
+    write!(out, " {n}")
 }
 
 // The bytes in hex.
-fn show_bytes(s: &[u8]) {
-    let mut i: usize = 0;
-    while i < s.len() {
-        io::write_all(1, b" ");
-        io::print_hex(1, s[i] as u64, 2);
-        i += 1;
+fn show_bytes(out: &mut impl Write, s: &[u8]) -> io::Result<()> {
+    for byte in s {
+        write!(out, " {byte:02x}")?;
     }
+    Ok(())
 }
 
-fn show_checked(example: &[u8], a: CheckAnswer) {
-    io::write_all(1, example);
-    io::write_all(1, b" check");
-    number(a.number);
-    number(a.version);
-    number(a.used);
-    number(a.total);
-    number(a.alignment);
-    number(a.live);
-    number(a.voids);
-    number(a.at);
-    io::write_all(1, b"\n");
+fn show_checked(out: &mut impl Write, example: &[u8], a: CheckAnswer) -> io::Result<()> {
+    out.write_all(example)?;
+    out.write_all(b" check")?;
+    number(out, a.number)?;
+    number(out, a.version)?;
+    number(out, a.used)?;
+    number(out, a.total)?;
+    number(out, a.alignment)?;
+    number(out, a.live)?;
+    number(out, a.voids)?;
+    number(out, a.at)?;
+    out.write_all(b"\n")
 }
 
-fn show_check(example: &[u8], area: &[u8], base: u64) {
-    show_checked(example, walk::check::check(area, base).numbers());
+fn show_check(out: &mut impl Write, example: &[u8], area: &[u8], base: u64) -> io::Result<()> {
+    show_checked(out, example, walk::check::check(area, base).numbers())
 }
 
-fn show_found(example: &[u8], a: FindAnswer, data: &[u8]) {
-    io::write_all(1, example);
-    io::write_all(1, b" find");
-    number(a.number);
-    number(a.offset);
-    number(a.size);
-    number(a.at);
-    show_bytes(data);
-    io::write_all(1, b"\n");
+fn show_found(out: &mut impl Write, example: &[u8], a: FindAnswer, data: &[u8]) -> io::Result<()> {
+    out.write_all(example)?;
+    out.write_all(b" find")?;
+    number(out, a.number)?;
+    number(out, a.offset)?;
+    number(out, a.size)?;
+    number(out, a.at)?;
+    show_bytes(out, data)?;
+    out.write_all(b"\n")
 }
 
-fn show_find(example: &[u8], area: &[u8], base: u64, tag: u32, n: u64) {
+fn show_find(
+    out: &mut impl Write,
+    example: &[u8],
+    area: &[u8],
+    base: u64,
+    tag: u32,
+    n: u64,
+) -> io::Result<()> {
     let found = walk::find::find(area, base, tag, n).numbers();
     show_found(
+        out,
         example,
         found,
         transfer_list::tl_find_data(area, base, tag, n),
-    );
+    )
 }
 
-fn show_done(example: &[u8], d: Done, bytes: &[u8]) {
+fn show_done(out: &mut impl Write, example: &[u8], d: Done, bytes: &[u8]) -> io::Result<()> {
     let a = d.numbers();
-    io::write_all(1, example);
-    number(a.number);
-    number(a.value);
-    number(a.at);
-    show_bytes(bytes);
-    io::write_all(1, b"\n");
+    out.write_all(example)?;
+    number(out, a.number)?;
+    number(out, a.value)?;
+    number(out, a.at)?;
+    show_bytes(out, bytes)?;
+    out.write_all(b"\n")
 }
 
 // A new list of 64 bytes; tag 1 with aa bb cc; that entry voided; tag 2 without data in its place.
-fn examples_a_to_d() {
+fn examples_a_to_d(out: &mut impl Write) -> io::Result<()> {
     let mut area = [0xffu8; 64];
     let made = create::create(&mut area, 0x1000, true);
-    show_done(b"A create", made, &area);
-    show_check(b"A", &area, 0x1000);
+    show_done(out, b"A create", made, &area)?;
+    show_check(out, b"A", &area, 0x1000)?;
     let added = edit::edits::add(&mut area, 0x1000, 1, b"\xaa\xbb\xcc", false);
-    show_done(b"B add", added, &area);
-    show_check(b"B", &area, 0x1000);
-    show_find(b"B", &area, 0x1000, 1, 0);
-    show_find(b"B", &area, 0x1000, 1, 1);
-    show_find(b"B", &area, 0x1000, 0, 0);
+    show_done(out, b"B add", added, &area)?;
+    show_check(out, b"B", &area, 0x1000)?;
+    show_find(out, b"B", &area, 0x1000, 1, 0)?;
+    show_find(out, b"B", &area, 0x1000, 1, 1)?;
+    show_find(out, b"B", &area, 0x1000, 0, 0)?;
     let voided = edit::edits::void(&mut area, 0x1000, 1, 0);
-    show_done(b"C void", voided, &area);
-    show_check(b"C", &area, 0x1000);
-    show_find(b"C", &area, 0x1000, 1, 0);
+    show_done(out, b"C void", voided, &area)?;
+    show_check(out, b"C", &area, 0x1000)?;
+    show_find(out, b"C", &area, 0x1000, 1, 0)?;
     let reused = edit::edits::add(&mut area, 0x1000, 2, b"", true);
-    show_done(b"D add", reused, &area);
-    show_check(b"D", &area, 0x1000);
-    show_find(b"D", &area, 0x1000, 2, 0);
+    show_done(out, b"D add", reused, &area)?;
+    show_check(out, b"D", &area, 0x1000)?;
+    show_find(out, b"D", &area, 0x1000, 2, 0)
 }
 
 // Data into a list with a void of 16 and 16 bytes of room behind it.
-fn example_e(data: &[u8]) {
+fn example_e(out: &mut impl Write, data: &[u8]) -> io::Result<()> {
     let mut area = [0u8; 64];
     create::create(&mut area, 0x1000, true);
     edit::edits::add(&mut area, 0x1000, 1, b"0123456789abcdef", false);
     edit::edits::void(&mut area, 0x1000, 1, 0);
     let added = edit::edits::add(&mut area, 0x1000, 2, data, true);
-    show_done(b"E add", added, &area);
+    show_done(out, b"E add", added, &area)
 }
 
 // total - used is 8, then 0.
-fn example_f() {
+fn example_f(out: &mut impl Write) -> io::Result<()> {
     let mut area = [0u8; 32];
     create::create(&mut area, 0x1000, true);
     let one = edit::edits::add(&mut area, 0x1000, 2, b"\x07", false);
-    show_done(b"F add", one, &area);
+    show_done(out, b"F add", one, &area)?;
     let none = edit::edits::add(&mut area, 0x1000, 2, b"", false);
-    show_done(b"F add", none, &area);
+    show_done(out, b"F add", none, &area)?;
     let more = edit::edits::add(&mut area, 0x1000, 2, b"", false);
-    show_done(b"F add", more, &area);
+    show_done(out, b"F add", more, &area)
 }
 
 // Four bytes aligned to 2^4, to 2^6, and to 2^6 with total 64.
-fn example_g() {
+fn example_g(out: &mut impl Write) -> io::Result<()> {
     let mut area = [0u8; 80];
     create::create(&mut area, 0x1000, true);
     let aligned = edit::edits::add_aligned(&mut area, 0x1000, 4, b"\x01\x02\x03\x04", 4);
-    show_done(b"G add aligned", aligned, &area);
+    show_done(out, b"G add aligned", aligned, &area)?;
     let mut small = [0u8; 64];
     create::create(&mut small, 0x1000, true);
     let refused = edit::edits::add_aligned(&mut small, 0x1000, 4, b"\x01\x02\x03\x04", 6);
-    show_done(b"G add aligned", refused, &small);
+    show_done(out, b"G add aligned", refused, &small)
 }
 
 // The list of exponent 6, and its relocations.
-fn example_h() {
+fn example_h(out: &mut impl Write) -> io::Result<()> {
     let mut area = [0u8; 80];
     create::create(&mut area, 0x1000, true);
     let aligned = edit::edits::add_aligned(&mut area, 0x1000, 4, b"\x01\x02\x03\x04", 6);
-    show_done(b"G add aligned", aligned, &area);
-    show_check(b"G", &area, 0x1000);
-    show_find(b"G", &area, 0x1000, 4, 0);
-    relocations(&area);
+    show_done(out, b"G add aligned", aligned, &area)?;
+    show_check(out, b"G", &area, 0x1000)?;
+    show_find(out, b"G", &area, 0x1000, 4, 0)?;
+    relocations(out, &area)
 }
 
 // To 200, 128 and 127 bytes.
-fn relocations(area: &[u8]) {
+fn relocations(out: &mut impl Write, area: &[u8]) -> io::Result<()> {
     let mut large = [0xffu8; 200];
     let moved = relocate::relocate(area, 0x1000, &mut large, 0x2008);
-    show_done(b"H relocate", moved, &large);
+    show_done(out, b"H relocate", moved, &large)?;
     let mut middle = [0xffu8; 128];
     let fitted = relocate::relocate(area, 0x1000, &mut middle, 0x2008);
-    show_done(b"H relocate", fitted, &middle);
+    show_done(out, b"H relocate", fitted, &middle)?;
     let mut small = [0xffu8; 127];
     let refused = relocate::relocate(area, 0x1000, &mut small, 0x2008);
-    show_done(b"H relocate", refused, &small);
+    show_done(out, b"H relocate", refused, &small)
 }
 
 // Only the first 24 bytes are shown.
-fn show_first(example: &[u8], d: Done, bytes: &[u8]) {
+fn show_first(out: &mut impl Write, example: &[u8], d: Done, bytes: &[u8]) -> io::Result<()> {
     if 24 <= bytes.len() {
-        show_done(example, d, &bytes[..24]);
+        show_done(out, example, d, &bytes[..24])?;
     }
+    Ok(())
 }
 
 // Create with 24, 25 and 65,536 bytes. Of the large one the first 24 bytes are shown.
-fn example_i() {
+fn example_i(out: &mut impl Write) -> io::Result<()> {
     let mut short = [0xffu8; 24];
     let refused = create::create(&mut short, 0x1000, true);
-    show_done(b"I create", refused, &short);
+    show_done(out, b"I create", refused, &short)?;
     let mut least = [0xffu8; 25];
     let made = create::create(&mut least, 0x1000, true);
-    show_done(b"I create", made, &least);
+    show_done(out, b"I create", made, &least)?;
     let mut most = [0xffu8; 65536];
     let full = create::create(&mut most, 0x1000, true);
-    show_first(b"I create", full, &most);
+    show_first(out, b"I create", full, &most)
 }
 
 // A new list without a checksum, with another alignment field.
-fn example_j(example: &[u8], alignment: u8) {
+fn example_j(out: &mut impl Write, example: &[u8], alignment: u8) -> io::Result<()> {
     let mut area = [0u8; 64];
     create::create(&mut area, 0x1000, false);
     area[7] = alignment;
-    show_check(example, &area, 0x1000);
+    show_check(out, example, &area, 0x1000)
 }
 
 // An entry whose data_size is 0xffffffff.
-fn example_k() {
+fn example_k(out: &mut impl Write) -> io::Result<()> {
     let mut area = [0u8; 64];
     create::create(&mut area, 0x1000, false);
     edit::edits::add(&mut area, 0x1000, 1, b"\xaa\xbb\xcc", false);
@@ -191,57 +199,77 @@ fn example_k() {
     area[29] = 0xff;
     area[30] = 0xff;
     area[31] = 0xff;
-    show_check(b"K", &area, 0x1000);
+    show_check(out, b"K", &area, 0x1000)
 }
 
 // Used 24: no entries.
-fn example_m() {
+fn example_m(out: &mut impl Write) -> io::Result<()> {
     let mut area = [0u8; 64];
     create::create(&mut area, 0x1000, true);
-    show_check(b"M", &area, 0x1000);
+    show_check(out, b"M", &area, 0x1000)
 }
 
 // Version 2 with a bad checksum: add says READONLY, check says CHECKSUM.
-fn example_n() {
+fn example_n(out: &mut impl Write) -> io::Result<()> {
     let mut area = [0u8; 64];
     create::create(&mut area, 0x1000, true);
     area[5] = 2;
     let refused = edit::edits::add(&mut area, 0x1000, 1, b"\xaa\xbb\xcc", false);
-    show_done(b"N add", refused, &area);
-    show_check(b"N", &area, 0x1000);
+    show_done(out, b"N add", refused, &area)?;
+    show_check(out, b"N", &area, 0x1000)
 }
 
 // ---- Edition 0.9. Source 000 has no examples, so these are our own.
 
-fn show_check09(example: &[u8], area: &[u8], base: u64) {
-    show_checked(example, transfer_list::tl09_check(area, base));
+fn show_check09(out: &mut impl Write, example: &[u8], area: &[u8], base: u64) -> io::Result<()> {
+    show_checked(out, example, transfer_list::tl09_check(area, base))
 }
 
-fn show_find09(example: &[u8], area: &[u8], base: u64, tag: u32, n: u64) {
+fn show_find09(
+    out: &mut impl Write,
+    example: &[u8],
+    area: &[u8],
+    base: u64,
+    tag: u32,
+    n: u64,
+) -> io::Result<()> {
     let found = transfer_list::tl09_find(area, base, tag, n);
     show_found(
+        out,
         example,
         found,
         transfer_list::tl09_find_data(area, base, tag, n),
-    );
+    )
 }
 
 // The whole target, full of ff before.
-fn show_convert09(example: &[u8], area: &[u8], base: u64, target_base: u64) {
+fn show_convert09(
+    out: &mut impl Write,
+    example: &[u8],
+    area: &[u8],
+    base: u64,
+    target_base: u64,
+) -> io::Result<()> {
     let mut target = [0xffu8; 64];
     let converted = convert::convert(area, base, &mut target, target_base);
-    show_done(example, converted, &target);
+    show_done(out, example, converted, &target)
 }
 
 // The same with one byte less.
-fn show_convert09_to_63(example: &[u8], area: &[u8], base: u64, target_base: u64) {
+fn show_convert09_to_63(
+    out: &mut impl Write,
+    example: &[u8],
+    area: &[u8],
+    base: u64,
+    target_base: u64,
+) -> io::Result<()> {
     let mut target = [0xffu8; 63];
     let converted = convert::convert(area, base, &mut target, target_base);
-    show_done(example, converted, &target);
+    show_done(out, example, converted, &target)
 }
 
 // A new list of 16 bytes; tag 1 with aa bb cc; a void of 8; version 2 with a header of 20 bytes; what is refused.
-fn examples_09() {
+fn examples_09(out: &mut impl Write) -> io::Result<()> {
     let new = b"\xff\xd0\x6e\0\x71\x01\x10\x03\x10\0\0\0\x10\0\0\0";
     let entry =
         b"\xff\xd0\x6e\0\xce\x01\x10\x03\x20\0\0\0\x20\0\0\0\x01\0\0\x08\x03\0\0\0\xaa\xbb\xcc\0\0\0\0\0";
@@ -249,79 +277,94 @@ fn examples_09() {
         b"\xff\xd0\x6e\0\xa1\x01\x10\x03\x20\0\0\0\x20\0\0\0\0\0\0\x08\x08\0\0\0\0\0\0\0\0\0\0\0";
     let later =
         b"\xff\xd0\x6e\0\xe3\x02\x14\x03\x28\0\0\0\x28\0\0\0\0\0\0\0\0\0\0\0\x01\0\0\x08\x03\0\0\0\xaa\xbb\xcc\0\0\0\0\0";
-    show_check09(b"09 new", new, 0x1000);
+    show_check09(out, b"09 new", new, 0x1000)?;
     show_check09(
+        out,
         b"09 new of 15",
         b"\xff\xd0\x6e\0\x71\x01\x10\x03\x10\0\0\0\x10\0\0",
         0x1000,
-    );
-    show_check09(b"09 entry", entry, 0x1000);
-    show_find09(b"09 entry", entry, 0x1000, 1, 0);
-    show_find09(b"09 entry", entry, 0x1000, 1, 1);
-    show_find09(b"09 entry", entry, 0x1000, 0, 0);
-    show_check09(b"09 void", void, 0x1000);
-    show_check09(b"09 later version", later, 0x1000);
-    show_find09(b"09 later version", later, 0x1000, 1, 0);
+    )?;
+    show_check09(out, b"09 entry", entry, 0x1000)?;
+    show_find09(out, b"09 entry", entry, 0x1000, 1, 0)?;
+    show_find09(out, b"09 entry", entry, 0x1000, 1, 1)?;
+    show_find09(out, b"09 entry", entry, 0x1000, 0, 0)?;
+    show_check09(out, b"09 void", void, 0x1000)?;
+    show_check09(out, b"09 later version", later, 0x1000)?;
+    show_find09(out, b"09 later version", later, 0x1000, 1, 0)?;
     show_check09(
+        out,
         b"09 sum negated",
         b"\xff\xd0\x6e\0\x32\x01\x10\x03\x20\0\0\0\x20\0\0\0\x01\0\0\x08\x03\0\0\0\xaa\xbb\xcc\0\0\0\0\0",
         0x1000,
-    );
+    )?;
     show_check09(
+        out,
         b"09 sum with byte 4",
         b"\xff\xd0\x6e\0\x9c\x01\x10\x03\x20\0\0\0\x20\0\0\0\x01\0\0\x08\x03\0\0\0\xaa\xbb\xcc\0\0\0\0\0",
         0x1000,
-    );
-    show_check09(b"09 odd address", entry, 0x1004);
-    show_check(b"09 as current", entry, 0x1000);
-    show_convert09(b"09 new convert", new, 0, 0x1000);
-    show_convert09(b"09 entry convert", entry, 0, 0x1000);
-    show_convert09(b"09 void convert", void, 0, 0x1000);
-    show_convert09(b"09 beyond 2^48 convert", entry, 0, 0xffffffffffc1);
-    show_convert09(b"09 later version convert", later, 0, 0x1000);
+    )?;
+    show_check09(out, b"09 odd address", entry, 0x1004)?;
+    show_check(out, b"09 as current", entry, 0x1000)?;
+    show_convert09(out, b"09 new convert", new, 0, 0x1000)?;
+    show_convert09(out, b"09 entry convert", entry, 0, 0x1000)?;
+    show_convert09(out, b"09 void convert", void, 0, 0x1000)?;
+    show_convert09(out, b"09 beyond 2^48 convert", entry, 0, 0xffffffffffc1)?;
+    show_convert09(out, b"09 later version convert", later, 0, 0x1000)
 }
 
 // A void that has data and tag 4 whose padding is not 0, converted from base 0 with alignment 3, 6 and 12 and from 0x1040.
-fn conversions_09() {
+fn conversions_09(out: &mut impl Write) -> io::Result<()> {
     let three =
         b"\xff\xd0\x6e\0\x7c\x01\x10\x03\x30\0\0\0\x30\0\0\0\0\0\0\x08\x08\0\0\0old data\x04\0\0\x08\x04\0\0\0\x01\x02\x03\x04pads";
     let six =
         b"\xff\xd0\x6e\0\x7f\x01\x10\x06\x30\0\0\0\x30\0\0\0\0\0\0\x08\x08\0\0\0old data\x04\0\0\x08\x04\0\0\0\x01\x02\x03\x04pads";
     let twelve =
         b"\xff\xd0\x6e\0\x85\x01\x10\x0c\x30\0\0\0\x30\0\0\0\0\0\0\x08\x08\0\0\0old data\x04\0\0\x08\x04\0\0\0\x01\x02\x03\x04pads";
-    show_convert09(b"09 alignment 3 convert", three, 0, 0xff0);
-    show_convert09(b"09 alignment 6 convert", six, 0, 0xff0);
-    show_convert09(b"09 alignment 12 convert", twelve, 0, 0xff0);
-    show_convert09(b"09 alignment 12 at 0x1040 convert", twelve, 0x1040, 0x1030);
-    show_convert09_to_63(b"09 no room convert", twelve, 0, 0xff0);
+    show_convert09(out, b"09 alignment 3 convert", three, 0, 0xff0)?;
+    show_convert09(out, b"09 alignment 6 convert", six, 0, 0xff0)?;
+    show_convert09(out, b"09 alignment 12 convert", twelve, 0, 0xff0)?;
+    show_convert09(
+        out,
+        b"09 alignment 12 at 0x1040 convert",
+        twelve,
+        0x1040,
+        0x1030,
+    )?;
+    show_convert09_to_63(out, b"09 no room convert", twelve, 0, 0xff0)
 }
 
 // ---- The event log's length (document 02, request 2). The examples are our own.
 
 // Data by either add, each into a new list.
-fn show_adds(example: &[u8], area: &mut [u8], tag: u32, data: &[u8]) {
+fn show_adds(
+    out: &mut impl Write,
+    example: &[u8],
+    area: &mut [u8],
+    tag: u32,
+    data: &[u8],
+) -> io::Result<()> {
     create::create(area, 0x1000, true);
     let added = edit::edits::add(area, 0x1000, tag, data, false);
-    io::write_all(1, example);
-    show_done(b" add", added, area);
+    out.write_all(example)?;
+    show_done(out, b" add", added, area)?;
     create::create(area, 0x1000, true);
     let aligned = edit::edits::add_aligned(area, 0x1000, tag, data, 4);
-    io::write_all(1, example);
-    show_done(b" add aligned", aligned, area);
+    out.write_all(example)?;
+    show_done(out, b" add aligned", aligned, area)
 }
 
 // Lists of 48 bytes.
-fn event_log(example: &[u8], data: &[u8]) {
+fn event_log(out: &mut impl Write, example: &[u8], data: &[u8]) -> io::Result<()> {
     let mut area = [0u8; 48];
-    show_adds(example, &mut area, 5, data);
+    show_adds(out, example, &mut area, 5, data)
 }
 
 // A list made elsewhere whose event log has 3 bytes is read.
-fn short_event_log() {
+fn short_event_log(out: &mut impl Write) -> io::Result<()> {
     let list =
         b"\x0b\xb1\x0f\x4a\xea\x01\x18\x03\x28\0\0\0\x28\0\0\0\x01\0\0\0\0\0\0\0\x05\0\0\x08\x03\0\0\0\x01\x02\x03\0\0\0\0\0";
-    show_check(b"short event log", list, 0x1000);
-    show_find(b"short event log", list, 0x1000, 5, 0);
+    show_check(out, b"short event log", list, 0x1000)?;
+    show_find(out, b"short event log", list, 0x1000, 5, 0)
 }
 
 // ---- Tidying (document 02, request 3). The examples are our own.
@@ -343,7 +386,15 @@ fn make_six(area: &mut [u8]) {
 
 // The six with other tags for 1, set by hand, and so is the checksum: with tag 0, voids that still have their data. A byte of padding and
 // one behind the used bytes are not 0. Tidied twice.
-fn tidy_six(example: &[u8], first: u8, second: u8, fourth: u8, fifth: u8, sixth: u8) {
+fn tidy_six(
+    out: &mut impl Write,
+    example: &[u8],
+    first: u8,
+    second: u8,
+    fourth: u8,
+    fifth: u8,
+    sixth: u8,
+) -> io::Result<()> {
     let mut area = [0u8; 104];
     make_six(&mut area);
     area[24] = first;
@@ -354,18 +405,18 @@ fn tidy_six(example: &[u8], first: u8, second: u8, fourth: u8, fifth: u8, sixth:
     area[63] = 0x5a;
     area[103] = 0xee;
     area[4] = 0x6a ^ first ^ second ^ fourth ^ fifth ^ sixth;
-    show_check(example, &area, 0x1000);
+    show_check(out, example, &area, 0x1000)?;
     let once = tidy::tidy(&mut area, 0x1000);
-    io::write_all(1, example);
-    show_done(b" tidy", once, &area);
+    out.write_all(example)?;
+    show_done(out, b" tidy", once, &area)?;
     let twice = tidy::tidy(&mut area, 0x1000);
-    io::write_all(1, example);
-    show_done(b" tidy", twice, &area);
-    show_check(example, &area, 0x1000);
+    out.write_all(example)?;
+    show_done(out, b" tidy", twice, &area)?;
+    show_check(out, example, &area, 0x1000)
 }
 
 // Three voids, two of them with data: all are given back.
-fn tidy_only_voids() {
+fn tidy_only_voids(out: &mut impl Write) -> io::Result<()> {
     let mut area = [0u8; 72];
     create::create(&mut area, 0x1000, true);
     add_two(&mut area);
@@ -374,14 +425,14 @@ fn tidy_only_voids() {
     area[40] = 0;
     area[48] = 0;
     area[4] = 0xe4;
-    show_check(b"only voids", &area, 0x1000);
+    show_check(out, b"only voids", &area, 0x1000)?;
     let tidied = tidy::tidy(&mut area, 0x1000);
-    show_done(b"only voids tidy", tidied, &area);
-    show_check(b"only voids", &area, 0x1000);
+    show_done(out, b"only voids tidy", tidied, &area)?;
+    show_check(out, b"only voids", &area, 0x1000)
 }
 
 // Two voids before an entry, without a checksum. Other flags and the reserved word are not 0.
-fn tidy_without_checksum() {
+fn tidy_without_checksum(out: &mut impl Write) -> io::Result<()> {
     let mut area = [0u8; 64];
     create::create(&mut area, 0x1000, false);
     add_two(&mut area);
@@ -391,12 +442,12 @@ fn tidy_without_checksum() {
     area[16] = 0xfe;
     area[20] = 0x5a;
     let tidied = tidy::tidy(&mut area, 0x1000);
-    show_done(b"voids without checksum tidy", tidied, &area);
-    show_check(b"voids without checksum", &area, 0x1000);
+    show_done(out, b"voids without checksum tidy", tidied, &area)?;
+    show_check(out, b"voids without checksum", &area, 0x1000)
 }
 
 // Three bytes have no room in a full list with two voids without data; tidied, it takes them.
-fn tidy_for_room() {
+fn tidy_for_room(out: &mut impl Write) -> io::Result<()> {
     let mut area = [0u8; 64];
     create::create(&mut area, 0x1000, true);
     edit::edits::add(&mut area, 0x1000, 1, b"", false);
@@ -405,72 +456,69 @@ fn tidy_for_room() {
     edit::edits::void(&mut area, 0x1000, 1, 0);
     edit::edits::void(&mut area, 0x1000, 1, 0);
     let refused = edit::edits::add(&mut area, 0x1000, 3, b"\x01\x02\x03", true);
-    show_done(b"room in voids add", refused, &area);
+    show_done(out, b"room in voids add", refused, &area)?;
     let tidied = tidy::tidy(&mut area, 0x1000);
-    show_done(b"room in voids tidy", tidied, &area);
+    show_done(out, b"room in voids tidy", tidied, &area)?;
     let added = edit::edits::add(&mut area, 0x1000, 3, b"\x01\x02\x03", true);
-    show_done(b"room in voids add", added, &area);
+    show_done(out, b"room in voids add", added, &area)
 }
 
 // No entries; a void and a wrong checksum; the same in version 2 with the right one.
-fn tidy_nothing() {
+fn tidy_nothing(out: &mut impl Write) -> io::Result<()> {
     let mut area = [0u8; 48];
     create::create(&mut area, 0x1000, true);
     let same = tidy::tidy(&mut area, 0x1000);
-    show_done(b"no entries tidy", same, &area);
+    show_done(out, b"no entries tidy", same, &area)?;
     edit::edits::add(&mut area, 0x1000, 1, b"", false);
     edit::edits::void(&mut area, 0x1000, 1, 0);
     area[4] = 0xfd;
     let wrong = tidy::tidy(&mut area, 0x1000);
-    show_done(b"bad checksum tidy", wrong, &area);
+    show_done(out, b"bad checksum tidy", wrong, &area)?;
     area[5] = 2;
     area[4] = 0xff;
     let later = tidy::tidy(&mut area, 0x1000);
-    show_done(b"void in version 2 tidy", later, &area);
-    show_check(b"void in version 2", &area, 0x1000);
+    show_done(out, b"void in version 2 tidy", later, &area)?;
+    show_check(out, b"void in version 2", &area, 0x1000)
 }
 
 // Bytes of which no two neighbours are equal.
 fn fill(a: &mut [u8]) {
-    let mut i: usize = 0;
-    while i < a.len() {
-        a[i] = (i % 256 * 167 % 256) as u8;
-        i += 1;
+    for (i, byte) in a.iter_mut().enumerate() {
+        *byte = (i % 256 * 167 % 256) as u8;
     }
 }
 
 // The exclusive or of n bytes from at on, if there are that many.
-fn show_xor(s: &[u8], at: usize, n: usize) {
+fn show_xor(out: &mut impl Write, s: &[u8], at: usize, n: usize) -> io::Result<()> {
     if n <= s.len() {
         if at <= s.len() - n {
-            io::write_all(1, b" ");
-            io::print_hex(1, wire::xor_part(s, at, n) as u64, 2);
+            let xor = wire::xor_part(s, at, n);
+            write!(out, " {xor:02x}")?;
         }
     }
+    Ok(())
 }
 
 // The exclusive or of 0, 1, 2 .. bytes from a start on, up to the end.
-fn show_xors(s: &[u8], start: u32) {
-    io::write_all(1, b"xor from");
-    number(start);
-    let mut n: usize = 0;
-    while n <= s.len() {
-        show_xor(s, start as usize, n);
-        n += 1;
+fn show_xors(out: &mut impl Write, s: &[u8], start: u32) -> io::Result<()> {
+    out.write_all(b"xor from")?;
+    number(out, start)?;
+    for n in 0..=s.len() {
+        show_xor(out, s, start as usize, n)?;
     }
-    io::write_all(1, b"\n");
+    out.write_all(b"\n")
 }
 
 // Any start and any length. A turn takes 1, 8 or 32 bytes, as compiled for x86-64 also 128; 300 are more than two of each.
-fn xors() {
+fn xors(out: &mut impl Write) -> io::Result<()> {
     let mut bytes = [0u8; 300];
     fill(&mut bytes);
-    show_xors(&bytes, 0);
-    show_xors(&bytes, 1);
-    show_xors(&bytes, 8);
-    show_xors(&bytes, 13);
-    show_xors(&bytes, 299);
-    show_xors(&bytes, 300);
+    show_xors(out, &bytes, 0)?;
+    show_xors(out, &bytes, 1)?;
+    show_xors(out, &bytes, 8)?;
+    show_xors(out, &bytes, 13)?;
+    show_xors(out, &bytes, 299)?;
+    show_xors(out, &bytes, 300)
 }
 
 // ---- The test certificate (document 02, request 5). The first example is the request's, the others are our own.
@@ -508,17 +556,23 @@ fn bits(x: f64) -> u64 {
 }
 
 // The answer about the certificate of the list in area, and the area.
-fn show_certificate(example: &[u8], area: &[u8], serial: u64, test: u64) {
+fn show_certificate(
+    out: &mut impl Write,
+    example: &[u8],
+    area: &[u8],
+    serial: u64,
+    test: u64,
+) -> io::Result<()> {
     let a = transfer_list::tl_certificate(area, 0x1000, serial, test);
-    io::write_all(1, example);
-    io::write_all(1, b" certificate");
-    number(a.number);
-    number(a.pass);
-    io::write_all(1, b" ");
-    io::print_hex(1, bits(a.reading), 16);
-    number(a.at);
-    show_bytes(area);
-    io::write_all(1, b"\n");
+    out.write_all(example)?;
+    out.write_all(b" certificate")?;
+    number(out, a.number)?;
+    number(out, a.pass)?;
+    let reading = bits(a.reading);
+    write!(out, " {reading:016x}")?;
+    number(out, a.at)?;
+    show_bytes(out, area)?;
+    out.write_all(b"\n")
 }
 
 // A number's bytes, the least first, from at on, if there are that many.
@@ -576,110 +630,115 @@ fn made_900() -> Certificate {
 }
 
 // A certificate in a new list.
-fn certify(example: &[u8], c: Certificate) {
+fn certify(out: &mut impl Write, example: &[u8], c: Certificate) -> io::Result<()> {
     let mut area = [0u8; 88];
     create::create(&mut area, 0x1000, true);
     add_certificate(&mut area, c);
-    show_certificate(example, &area, SERIAL, TEST);
+    show_certificate(out, example, &area, SERIAL, TEST)
 }
 
 // Any gate for a gauge with gain 0.25 and offset -100: kind, counts, low, high.
-fn gate(kind: u32, counts: u32, low: u64, high: u64) {
-    certify(b"gate", made(kind, counts, QUARTER, MINUS_100, low, high));
+fn gate(out: &mut impl Write, kind: u32, counts: u32, low: u64, high: u64) -> io::Result<()> {
+    certify(
+        out,
+        b"gate",
+        made(kind, counts, QUARTER, MINUS_100, low, high),
+    )
 }
 
-fn gates() {
+fn gates(out: &mut impl Write) -> io::Result<()> {
     // A band at its high, above, at its low, below; a ceiling at it, above; a floor at it, below; the most counts.
-    gate(1, 4000, N_850, N_900);
-    gate(1, 4001, N_850, N_900);
-    gate(1, 3800, N_850, N_900);
-    gate(1, 3799, N_850, N_900);
-    gate(2, 4000, 0, N_900);
-    gate(2, 4001, 0, N_900);
-    gate(3, 4000, N_900, 0);
-    gate(3, 3999, N_900, 0);
-    gate(3, 0x100_0000, N_900, 0);
+    gate(out, 1, 4000, N_850, N_900)?;
+    gate(out, 1, 4001, N_850, N_900)?;
+    gate(out, 1, 3800, N_850, N_900)?;
+    gate(out, 1, 3799, N_850, N_900)?;
+    gate(out, 2, 4000, 0, N_900)?;
+    gate(out, 2, 4001, 0, N_900)?;
+    gate(out, 3, 4000, N_900, 0)?;
+    gate(out, 3, 3999, N_900, 0)?;
+    gate(out, 3, 0x100_0000, N_900, 0)?;
     // Refused: more counts; other kinds; an unused limit of -0.0; a band's low above its high; limits that are not finite.
-    gate(3, 0x100_0001, N_900, 0);
-    gate(0, 4000, N_850, N_900);
-    gate(4, 4000, N_850, N_900);
-    gate(257, 4000, N_850, N_900);
-    gate(2, 4000, MINUS_0, N_900);
-    gate(3, 4000, N_900, MINUS_0);
-    gate(1, 4000, N_900, N_850);
-    gate(3, 4000, NO_NUMBER, 0);
-    gate(3, 4000, 0xfff0_0000_0000_0000, 0);
-    gate(2, 4000, 0, NO_NUMBER);
-    gate(2, 4000, 0, INFINITY);
+    gate(out, 3, 0x100_0001, N_900, 0)?;
+    gate(out, 0, 4000, N_850, N_900)?;
+    gate(out, 4, 4000, N_850, N_900)?;
+    gate(out, 257, 4000, N_850, N_900)?;
+    gate(out, 2, 4000, MINUS_0, N_900)?;
+    gate(out, 3, 4000, N_900, MINUS_0)?;
+    gate(out, 1, 4000, N_900, N_850)?;
+    gate(out, 3, 4000, NO_NUMBER, 0)?;
+    gate(out, 3, 4000, 0xfff0_0000_0000_0000, 0)?;
+    gate(out, 2, 4000, 0, NO_NUMBER)?;
+    gate(out, 2, 4000, 0, INFINITY)
 }
 
 // Any gauge with a floor of 0.0: counts, gain, offset.
-fn gauge(counts: u32, gain: u64, offset: u64) {
-    certify(b"gauge", made(Gate::FLOOR, counts, gain, offset, 0, 0));
+fn gauge(out: &mut impl Write, counts: u32, gain: u64, offset: u64) -> io::Result<()> {
+    certify(out, b"gauge", made(Gate::FLOOR, counts, gain, offset, 0, 0))
 }
 
-fn gauges() {
+fn gauges(out: &mut impl Write) -> io::Result<()> {
     // The least gain; a product that is rounded before -3 is added: of the exact one 3 times 2 to the -52 would be left, and not 2 to the -50.
-    gauge(1, 1, 0);
-    gauge(3, OVER_1, 0xc008_0000_0000_0000);
+    gauge(out, 1, 1, 0)?;
+    gauge(out, 3, OVER_1, 0xc008_0000_0000_0000)?;
     // Refused: a gain of 0.0, of -0.0, below, infinite, no number, no number that signals; an offset that is infinite, no number; a product
     // that is infinite with an offset that is not; a sum.
-    gauge(4000, 0, N_900);
-    gauge(4000, MINUS_0, N_900);
-    gauge(4000, 0xbfd0_0000_0000_0000, N_900);
-    gauge(4000, INFINITY, N_900);
-    gauge(4000, NO_NUMBER, N_900);
-    gauge(4000, 0x7ff0_0000_0000_0001, N_900);
-    gauge(4000, QUARTER, INFINITY);
-    gauge(4000, QUARTER, NO_NUMBER);
-    gauge(2, HUGE, 0xffef_ffff_ffff_ffff);
-    gauge(1, HUGE, HUGE);
+    gauge(out, 4000, 0, N_900)?;
+    gauge(out, 4000, MINUS_0, N_900)?;
+    gauge(out, 4000, 0xbfd0_0000_0000_0000, N_900)?;
+    gauge(out, 4000, INFINITY, N_900)?;
+    gauge(out, 4000, NO_NUMBER, N_900)?;
+    gauge(out, 4000, 0x7ff0_0000_0000_0001, N_900)?;
+    gauge(out, 4000, QUARTER, INFINITY)?;
+    gauge(out, 4000, QUARTER, NO_NUMBER)?;
+    gauge(out, 2, HUGE, 0xffef_ffff_ffff_ffff)?;
+    gauge(out, 1, HUGE, HUGE)?;
     // 0.0 and -0.0 add up to 0.0, which a band from 0.0 to -0.0 lets pass.
     certify(
+        out,
         b"band of zeros",
         made(Gate::BAND, 0, QUARTER, MINUS_0, 0, MINUS_0),
-    );
+    )
 }
 
 // None; one; another serial and another test, by their highest bits; two; those and a wrong checksum, which comes first.
-fn certificates_in_a_list() {
+fn certificates_in_a_list(out: &mut impl Write) -> io::Result<()> {
     let mut area = [0u8; 152];
     create::create(&mut area, 0x1000, true);
-    show_certificate(b"none", &area, SERIAL, TEST);
+    show_certificate(out, b"none", &area, SERIAL, TEST)?;
     add_certificate(&mut area, made_900());
-    show_certificate(b"one", &area, SERIAL, TEST);
-    show_certificate(b"another serial", &area, 0x8123_4567_89ab_cdef, TEST);
-    show_certificate(b"another test", &area, SERIAL, 0x8fed_cba9_8765_4321);
+    show_certificate(out, b"one", &area, SERIAL, TEST)?;
+    show_certificate(out, b"another serial", &area, 0x8123_4567_89ab_cdef, TEST)?;
+    show_certificate(out, b"another test", &area, SERIAL, 0x8fed_cba9_8765_4321)?;
     add_certificate(&mut area, made_900());
-    show_certificate(b"two", &area, SERIAL, TEST);
+    show_certificate(out, b"two", &area, SERIAL, TEST)?;
     area[4] = area[4] ^ 1;
-    show_certificate(b"two and bad checksum", &area, SERIAL, TEST);
+    show_certificate(out, b"two and bad checksum", &area, SERIAL, TEST)
 }
 
 // Lists of 96 bytes, which have room for each length.
-fn certificate_of(example: &[u8], data: &[u8]) {
+fn certificate_of(out: &mut impl Write, example: &[u8], data: &[u8]) -> io::Result<()> {
     let mut area = [0u8; 96];
-    show_adds(example, &mut area, Certificate::TAG, data);
+    show_adds(out, example, &mut area, Certificate::TAG, data)
 }
 
 // Beside an entry of 12 bytes, whose tag then becomes the certificate's by hand. No checksum.
-fn certificate_beside_12() {
+fn certificate_beside_12(out: &mut impl Write) -> io::Result<()> {
     let mut area = [0u8; 112];
     create::create(&mut area, 0x1000, false);
     add_certificate(&mut area, made_900());
     edit::edits::add(&mut area, 0x1000, 1, b"0123456789ab", false);
-    show_certificate(b"beside tag 1", &area, SERIAL, TEST);
+    show_certificate(out, b"beside tag 1", &area, SERIAL, TEST)?;
     put4(&mut area, 88, 0x08ff_f010);
-    show_certificate(b"beside one of 12", &area, SERIAL, TEST);
+    show_certificate(out, b"beside one of 12", &area, SERIAL, TEST)
 }
 
 // Alone, with a data_size that is made 55 by hand. No checksum.
-fn certificate_of_55() {
+fn certificate_of_55(out: &mut impl Write) -> io::Result<()> {
     let mut area = [0u8; 88];
     create::create(&mut area, 0x1000, false);
     add_certificate(&mut area, made_900());
     area[28] = 55;
-    show_certificate(b"one of 55", &area, SERIAL, TEST);
+    show_certificate(out, b"one of 55", &area, SERIAL, TEST)
 }
 
 // From the second byte on.
@@ -690,7 +749,7 @@ fn put_second(d: &mut [u8], c: Certificate) {
 }
 
 // An entry of 57 bytes becomes version 2's by hand, with a header of 9 bytes, the tag and 56 bytes of data at an odd address.
-fn certificate_at_odd_address() {
+fn certificate_at_odd_address(out: &mut impl Write) -> io::Result<()> {
     let mut data = [0u8; 57];
     put_second(&mut data, made_900());
     let mut area = [0u8; 96];
@@ -699,7 +758,7 @@ fn certificate_at_odd_address() {
     area[5] = 2;
     put4(&mut area, 24, 0x09ff_f010);
     put4(&mut area, 28, 56);
-    show_certificate(b"at an odd address", &area, SERIAL, TEST);
+    show_certificate(out, b"at an odd address", &area, SERIAL, TEST)
 }
 
 // A number's bytes, the greatest first.
@@ -753,144 +812,160 @@ fn put_sample(d: &mut [u8]) {
     put_fdt(
         d,
         b"\0\0\0\x01\0\0\0\0\0\0\0\x03\0\0\0\x04\0\0\0\0v900\0\0\0\x04\0\0\0\x01\
-              a\0\0\0\0\0\0\x03\0\0\0\x01\0\0\0\x06_z\0\0\0\0\0\0\x02\0\0\0\x01a\0\0\0\
+              a\0\0\0\0\0\0\x03\0\0\0\x01\0\0\0\x06Z\0\0\0\0\0\0\x02\0\0\0\x01a\0\0\0\
               \0\0\0\x03\0\0\0\0\0\0\0\x08\0\0\0\x02\0\0\0\x02\0\0\0\x09",
         b"model\0x\0y\0",
     );
 }
 
-fn show_fdt(example: &[u8], d: &[u8]) {
-    io::write_all(1, example);
-    io::write_all(1, b" fdt");
-    number(transfer_list::tl_fdt_check(d));
-    io::write_all(1, b"\n");
+fn show_fdt(out: &mut impl Write, example: &[u8], d: &[u8]) -> io::Result<()> {
+    out.write_all(example)?;
+    out.write_all(b" fdt")?;
+    number(out, transfer_list::tl_fdt_check(d))?;
+    out.write_all(b"\n")
 }
 
 // A tree of a structure and strings, with zeros behind it up to 512 bytes.
-fn fdt(example: &[u8], structure: &[u8], strings: &[u8]) {
+fn fdt(out: &mut impl Write, example: &[u8], structure: &[u8], strings: &[u8]) -> io::Result<()> {
     let mut d = [0u8; 512];
     put_fdt(&mut d, structure, strings);
-    show_fdt(example, &d);
+    show_fdt(out, example, &d)
 }
 
 // The sample with a number in place of another.
-fn fdt_with(example: &[u8], at: usize, n: u32) {
+fn fdt_with(out: &mut impl Write, example: &[u8], at: usize, n: u32) -> io::Result<()> {
     let mut d = [0u8; 512];
     put_sample(&mut d);
     put_big_endian(&mut d, at, n);
-    show_fdt(example, &d);
+    show_fdt(out, example, &d)
 }
 
 // A property of the sample: find's numbers, and the value itself.
-fn fdt_find(path: &[u8], name: &[u8]) {
+fn fdt_find(out: &mut impl Write, path: &[u8], name: &[u8]) -> io::Result<()> {
     let mut d = [0u8; 512];
     put_sample(&mut d);
     let found = transfer_list::tl_fdt_find(&d, path, name);
-    io::write_all(1, b"fdt find");
-    number(found.number);
-    number(found.offset);
-    number(found.size);
-    number(found.at);
-    show_bytes(transfer_list::tl_fdt_find_data(&d, path, name));
-    io::write_all(1, b"\n");
+    out.write_all(b"fdt find")?;
+    number(out, found.number)?;
+    number(out, found.offset)?;
+    number(out, found.size)?;
+    number(out, found.at)?;
+    show_bytes(out, transfer_list::tl_fdt_find_data(&d, path, name))?;
+    out.write_all(b"\n")
 }
 
 // The sample as it is; fields of its header, at their limits or off by one.
-fn fdt_headers() {
-    fdt_with(b"sample", 28, 0);
-    fdt_with(b"boot processor 1", 28, 1);
-    fdt_with(b"other magic", 0, 0xd00dfeee);
-    fdt_with(b"totalsize one less", 4, 0x99);
-    fdt_with(b"totalsize 512", 4, 0x200);
-    fdt_with(b"totalsize 513", 4, 0x201);
-    fdt_with(b"reservations from 32", 16, 0x20);
-    fdt_with(b"reservations from 44", 16, 0x2c);
-    fdt_with(b"reservations not ended", 40, 1);
-    fdt_with(b"version 16", 20, 0x10);
-    fdt_with(b"last compatible 17", 24, 0x11);
-    fdt_with(b"structure size one less", 36, 0x57);
-    fdt_with(b"strings one earlier", 12, 0x8f);
+fn fdt_headers(out: &mut impl Write) -> io::Result<()> {
+    fdt_with(out, b"sample", 28, 0)?;
+    fdt_with(out, b"boot processor 1", 28, 1)?;
+    fdt_with(out, b"other magic", 0, 0xd00dfeee)?;
+    fdt_with(out, b"totalsize one less", 4, 0x99)?;
+    fdt_with(out, b"totalsize 512", 4, 0x200)?;
+    fdt_with(out, b"totalsize 513", 4, 0x201)?;
+    fdt_with(out, b"reservations from 32", 16, 0x20)?;
+    fdt_with(out, b"reservations from 44", 16, 0x2c)?;
+    fdt_with(out, b"reservations not ended", 40, 1)?;
+    fdt_with(out, b"version 16", 20, 0x10)?;
+    fdt_with(out, b"last compatible 17", 24, 0x11)?;
+    fdt_with(out, b"structure size one less", 36, 0x57)?;
+    fdt_with(out, b"strings one earlier", 12, 0x8f)
 }
 
 // The first bytes alone.
-fn fdt_lengths() {
+fn fdt_lengths(out: &mut impl Write) -> io::Result<()> {
     let mut d = [0u8; 512];
     put_sample(&mut d);
-    show_fdt(b"first 39", &d[0..39]);
-    show_fdt(b"first 40", &d[0..40]);
-    show_fdt(b"first 153", &d[0..153]);
-    show_fdt(b"first 154", &d[0..154]);
+    show_fdt(out, b"first 39", &d[0..39])?;
+    show_fdt(out, b"first 40", &d[0..40])?;
+    show_fdt(out, b"first 153", &d[0..153])?;
+    show_fdt(out, b"first 154", &d[0..154])
 }
 
 // In the sample: the last name offset and one behind; lengths that would wrap; a token that is none; padding.
-fn fdt_names_and_values() {
-    fdt_with(b"empty name", 100, 9);
-    fdt_with(b"name offset at the end", 100, 0xa);
-    fdt_with(b"length of 2^32 - 1", 96, 0xffffffff);
-    fdt_with(b"length of 2^32 - 12", 96, 0xfffffff4);
-    fdt_with(b"token 5", 80, 5);
-    fdt_with(b"padding of a value", 104, 0x5a000001);
-    fdt_with(b"padding of a name", 88, 0x61000001);
+fn fdt_names_and_values(out: &mut impl Write) -> io::Result<()> {
+    fdt_with(out, b"empty name", 100, 9)?;
+    fdt_with(out, b"name offset at the end", 100, 0xa)?;
+    fdt_with(out, b"length of 2^32 - 1", 96, 0xffffffff)?;
+    fdt_with(out, b"length of 2^32 - 12", 96, 0xfffffff4)?;
+    fdt_with(out, b"token 5", 80, 5)?;
+    fdt_with(out, b"padding of a value", 104, 0x5a000001)?;
+    fdt_with(out, b"padding of a name", 88, 0x61000001)
 }
 
 // Whole structures.
-fn fdt_structures() {
+fn fdt_structures(out: &mut impl Write) -> io::Result<()> {
     fdt(
+        out,
         b"root alone",
         b"\0\0\0\x01\0\0\0\0\0\0\0\x02\0\0\0\x09",
         b"model\0x\0y\0",
-    );
+    )?;
     fdt(
+        out,
         b"NOP everywhere",
         b"\0\0\0\x04\0\0\0\x01\0\0\0\0\0\0\0\x04\0\0\0\x03\0\0\0\x04\0\0\0\0v900\
               \0\0\0\x04\0\0\0\x01a\0\0\0\0\0\0\x04\0\0\0\x02\0\0\0\x04\0\0\0\x02\0\0\0\x04\
               \0\0\0\x09",
         b"model\0x\0y\0",
-    );
+    )?;
     fdt(
+        out,
         b"named root",
         b"\0\0\0\x01a\0\0\0\0\0\0\x02\0\0\0\x09",
         b"model\0x\0y\0",
-    );
-    fdt(b"no root", b"\0\0\0\x09", b"model\0x\0y\0");
-    fdt(b"nothing", b"", b"model\0x\0y\0");
+    )?;
+    fdt(out, b"no root", b"\0\0\0\x09", b"model\0x\0y\0")?;
+    fdt(out, b"nothing", b"", b"model\0x\0y\0")?;
     fdt(
+        out,
         b"second root",
         b"\0\0\0\x01\0\0\0\0\0\0\0\x02\0\0\0\x01\0\0\0\0\0\0\0\x02\0\0\0\x09",
         b"model\0x\0y\0",
-    );
+    )?;
     fdt(
+        out,
         b"property at the top",
         b"\0\0\0\x03\0\0\0\x04\0\0\0\0v900\0\0\0\x01\0\0\0\0\0\0\0\x02\0\0\0\x09",
         b"model\0x\0y\0",
-    );
+    )?;
     fdt(
+        out,
         b"property behind a subnode",
         b"\0\0\0\x01\0\0\0\0\0\0\0\x01a\0\0\0\0\0\0\x02\0\0\0\x03\0\0\0\x04\0\0\0\0v900\0\0\0\x02\0\0\0\x09",
         b"model\0x\0y\0",
-    );
+    )?;
     fdt(
+        out,
         b"END inside",
         b"\0\0\0\x01\0\0\0\0\0\0\0\x09\0\0\0\x02\0\0\0\x09",
         b"model\0x\0y\0",
-    );
-    fdt(b"no END", b"\0\0\0\x01\0\0\0\0\0\0\0\x02", b"model\0x\0y\0");
+    )?;
     fdt(
+        out,
+        b"no END",
+        b"\0\0\0\x01\0\0\0\0\0\0\0\x02",
+        b"model\0x\0y\0",
+    )?;
+    fdt(
+        out,
         b"behind END",
         b"\0\0\0\x01\0\0\0\0\0\0\0\x02\0\0\0\x09\0\0\0\x04",
         b"model\0x\0y\0",
-    );
+    )?;
     fdt(
+        out,
         b"strings empty",
         b"\0\0\0\x01\0\0\0\0\0\0\0\x02\0\0\0\x09",
         b"",
-    );
+    )?;
     fdt(
+        out,
         b"strings empty, a property",
         b"\0\0\0\x01\0\0\0\0\0\0\0\x03\0\0\0\x04\0\0\0\0v900\0\0\0\x02\0\0\0\x09",
         b"",
-    );
+    )?;
     fdt(
+        out,
         b"16 nodes",
         b"\0\0\0\x01\0\0\0\0\0\0\0\x01\0\0\0\0\0\0\0\x01\0\0\0\0\0\0\0\x01\0\0\0\0\
               \0\0\0\x01\0\0\0\0\0\0\0\x01\0\0\0\0\0\0\0\x01\0\0\0\0\0\0\0\x01\0\0\0\0\
@@ -900,8 +975,9 @@ fn fdt_structures() {
               \0\0\0\x02\0\0\0\x02\0\0\0\x02\0\0\0\x02\0\0\0\x02\0\0\0\x02\0\0\0\x02\0\0\0\x02\
               \0\0\0\x09",
         b"model\0x\0y\0",
-    );
+    )?;
     fdt(
+        out,
         b"17 nodes",
         b"\0\0\0\x01\0\0\0\0\0\0\0\x01\0\0\0\0\0\0\0\x01\0\0\0\0\0\0\0\x01\0\0\0\0\
               \0\0\0\x01\0\0\0\0\0\0\0\x01\0\0\0\0\0\0\0\x01\0\0\0\0\0\0\0\x01\0\0\0\0\
@@ -911,74 +987,74 @@ fn fdt_structures() {
               \0\0\0\x02\0\0\0\x02\0\0\0\x02\0\0\0\x02\0\0\0\x02\0\0\0\x02\0\0\0\x02\0\0\0\x02\
               \0\0\0\x02\0\0\0\x02\0\0\0\x02\0\0\0\x09",
         b"model\0x\0y\0",
-    );
+    )
 }
 
 // In the sample, whose root has two nodes a: the first has x, the second y.
-fn fdt_finds() {
-    fdt_find(b"/", b"model");
-    fdt_find(b"/a", b"x");
-    fdt_find(b"/a", b"y");
-    fdt_find(b"/", b"x");
-    fdt_find(b"/a", b"model");
-    fdt_find(b"/b", b"x");
-    fdt_find(b"/a", b"");
-    fdt_find(b"", b"model");
-    fdt_find(b"a", b"x");
-    fdt_find(b"//", b"model");
-    fdt_find(b"/a/", b"x");
-    fdt_find(b"/a//a", b"x");
-    fdt_find(b"/a\0", b"x");
-    fdt_find(b"/a", b"x\0");
+fn fdt_finds(out: &mut impl Write) -> io::Result<()> {
+    fdt_find(out, b"/", b"model")?;
+    fdt_find(out, b"/a", b"x")?;
+    fdt_find(out, b"/a", b"y")?;
+    fdt_find(out, b"/", b"x")?;
+    fdt_find(out, b"/a", b"model")?;
+    fdt_find(out, b"/b", b"x")?;
+    fdt_find(out, b"/a", b"")?;
+    fdt_find(out, b"", b"model")?;
+    fdt_find(out, b"a", b"x")?;
+    fdt_find(out, b"//", b"model")?;
+    fdt_find(out, b"/a/", b"x")?;
+    fdt_find(out, b"/a//a", b"x")?;
+    fdt_find(out, b"/a\0", b"x")?;
+    fdt_find(out, b"/a", b"x\0")
 }
 
 // ---- Alignments up to 21 (document 02, request 7). The examples are our own.
 
 // Four bytes aligned, in a new list of 80 bytes. Byte 40, where the padding void will be, is not 0 before.
-fn aligned_near(example: &[u8], base: u64, exponent: u32) {
+fn aligned_near(out: &mut impl Write, example: &[u8], base: u64, exponent: u32) -> io::Result<()> {
     let mut area = [0u8; 80];
     create::create(&mut area, base, true);
     area[40] = 0xee;
     let aligned = edit::edits::add_aligned(&mut area, base, 4, b"\x01\x02\x03\x04", exponent);
-    io::write_all(1, example);
-    show_done(b" add aligned", aligned, &area);
-    show_check(example, &area, base);
+    out.write_all(example)?;
+    show_done(out, b" add aligned", aligned, &area)?;
+    show_check(out, example, &area, base)
 }
 
 // A padding void with 32,728 bytes of data in an area of 65,536; byte 1000 is not 0 before. The first 24 bytes are shown.
-fn aligned_far() {
+fn aligned_far(out: &mut impl Write) -> io::Result<()> {
     let mut area = [0xffu8; 65536];
     create::create(&mut area, 0x1f_8000, true);
     area[1000] = 0xee;
     let aligned = edit::edits::add_aligned(&mut area, 0x1f_8000, 4, b"\x01\x02\x03\x04", 21);
-    show_first(b"large padding add aligned", aligned, &area);
-    show_check(b"large padding", &area, 0x1f_8000);
-    show_find(b"large padding", &area, 0x1f_8000, 4, 0);
+    show_first(out, b"large padding add aligned", aligned, &area)?;
+    show_check(out, b"large padding", &area, 0x1f_8000)?;
+    show_find(out, b"large padding", &area, 0x1f_8000, 4, 0)
 }
 
 // The list of exponent 21, relocated with a shift of 8, and to a place where it has no room.
-fn relocations_21() {
+fn relocations_21(out: &mut impl Write) -> io::Result<()> {
     let mut area = [0u8; 80];
     create::create(&mut area, 0x1f_ffc0, true);
     edit::edits::add_aligned(&mut area, 0x1f_ffc0, 4, b"\x01\x02\x03\x04", 21);
     let mut target = [0xffu8; 96];
     let moved = relocate::relocate(&area, 0x1f_ffc0, &mut target, 0x3f_ffb8);
-    show_done(b"alignment 21 relocate", moved, &target);
+    show_done(out, b"alignment 21 relocate", moved, &target)?;
     let mut far = [0xffu8; 96];
     let refused = relocate::relocate(&area, 0x1f_ffc0, &mut far, 0x40_0000);
-    show_done(b"alignment 21 relocate", refused, &far);
+    show_done(out, b"alignment 21 relocate", refused, &far)
 }
 
 // A new list of edition 0.9 with alignment 21, its conversions from 0x1000 and from 0, and one with 22.
-fn alignments_09() {
+fn alignments_09(out: &mut impl Write) -> io::Result<()> {
     let most = b"\xff\xd0\x6e\0\x83\x01\x10\x15\x10\0\0\0\x10\0\0\0";
     let over = b"\xff\xd0\x6e\0\x84\x01\x10\x16\x10\0\0\0\x10\0\0\0";
-    show_check09(b"09 alignment 21", most, 0x1000);
-    show_convert09(b"09 alignment 21 convert", most, 0x1000, 0xff0);
-    show_convert09(b"09 alignment 21 from 0 convert", most, 0, 0x1f_fff1);
-    show_convert09(b"09 alignment 21 no room convert", most, 0, 0x1000);
-    show_check09(b"09 alignment 22", over, 0x1000);
-    show_convert09(b"09 alignment 22 convert", over, 0x1000, 0xff0);
+    show_check09(out, b"09 alignment 21", most, 0x1000)?;
+    show_convert09(out, b"09 alignment 21 convert", most, 0x1000, 0xff0)?;
+    show_convert09(out, b"09 alignment 21 from 0 convert", most, 0, 0x1f_fff1)?;
+    show_convert09(out, b"09 alignment 21 no room convert", most, 0, 0x1000)?;
+    show_check09(out, b"09 alignment 22", over, 0x1000)?;
+    show_convert09(out, b"09 alignment 22 convert", over, 0x1000, 0xff0)
 }
 
 // ---- Where the bad entry is (document 02, request 8). The examples are our own.
@@ -992,75 +1068,81 @@ fn make_bad(area: &mut [u8], at: usize, byte: &[u8]) {
     put_part(area, at, byte);
 }
 
-fn bad_entry(example: &[u8], at: usize, byte: &[u8]) {
+fn bad_entry(out: &mut impl Write, example: &[u8], at: usize, byte: &[u8]) -> io::Result<()> {
     let mut area = [0u8; 72];
     make_bad(&mut area, at, byte);
-    show_check(example, &area, 0x1000);
+    show_check(out, example, &area, 0x1000)
 }
 
 // The first, the middle and the last entry with a header of 9 bytes; with 49 bytes of data where at most 40 are left; as a void of 3.
-fn bad_entries() {
-    bad_entry(b"header of 9 first", 27, b"\x09");
-    bad_entry(b"header of 9 in the middle", 43, b"\x09");
-    bad_entry(b"header of 9 last", 59, b"\x09");
-    bad_entry(b"data of 49 first", 28, b"\x31");
-    bad_entry(b"data of 49 in the middle", 44, b"\x31");
-    bad_entry(b"data of 49 last", 60, b"\x31");
-    bad_entry(b"void of 3 first", 24, b"\0");
-    bad_entry(b"void of 3 in the middle", 40, b"\0");
-    bad_entry(b"void of 3 last", 56, b"\0");
-    bad_entry(b"data of 40 first", 28, b"\x28");
+fn bad_entries(out: &mut impl Write) -> io::Result<()> {
+    bad_entry(out, b"header of 9 first", 27, b"\x09")?;
+    bad_entry(out, b"header of 9 in the middle", 43, b"\x09")?;
+    bad_entry(out, b"header of 9 last", 59, b"\x09")?;
+    bad_entry(out, b"data of 49 first", 28, b"\x31")?;
+    bad_entry(out, b"data of 49 in the middle", 44, b"\x31")?;
+    bad_entry(out, b"data of 49 last", 60, b"\x31")?;
+    bad_entry(out, b"void of 3 first", 24, b"\0")?;
+    bad_entry(out, b"void of 3 in the middle", 40, b"\0")?;
+    bad_entry(out, b"void of 3 last", 56, b"\0")?;
+    bad_entry(out, b"data of 40 first", 28, b"\x28")
 }
 
 // Every call that makes the check, on the list whose middle entry has a header of 9 bytes, and whose last one has too.
-fn bad_entry_calls() {
+fn bad_entry_calls(out: &mut impl Write) -> io::Result<()> {
     let mut area = [0u8; 72];
     let mut target = [0xffu8; 80];
     make_bad(&mut area, 43, b"\x09");
     area[59] = 9;
-    show_find(b"two of 9", &area, 0x1000, 1, 0);
+    show_find(out, b"two of 9", &area, 0x1000, 1, 0)?;
     let added = edit::edits::add(&mut area, 0x1000, 0, b"", true);
-    show_done(b"two of 9 add", added, &area);
+    show_done(out, b"two of 9 add", added, &area)?;
     let aligned = edit::edits::add_aligned(&mut area, 0x1000, 4, b"", 22);
-    show_done(b"two of 9 add aligned", aligned, &area);
+    show_done(out, b"two of 9 add aligned", aligned, &area)?;
     let voided = edit::edits::void(&mut area, 0x1000, 1, 0);
-    show_done(b"two of 9 void", voided, &area);
+    show_done(out, b"two of 9 void", voided, &area)?;
     let tidied = tidy::tidy(&mut area, 0x1000);
-    show_done(b"two of 9 tidy", tidied, &area);
+    show_done(out, b"two of 9 tidy", tidied, &area)?;
     let moved = relocate::relocate(&area, 0x1000, &mut target, 0x2000);
-    show_done(b"two of 9 relocate", moved, &target);
-    show_certificate(b"two of 9", &area, 1, 1);
+    show_done(out, b"two of 9 relocate", moved, &target)?;
+    show_certificate(out, b"two of 9", &area, 1, 1)?;
     area[4] = 1;
-    show_check(b"two of 9 and bad checksum", &area, 0x1000);
+    show_check(out, b"two of 9 and bad checksum", &area, 0x1000)
 }
 
 // Of version 2 a header of 9 bytes is good, and one of 7 is not; an edit is READONLY. Of edition 0.9 the first entry stands at 16.
-fn bad_entries_elsewhere() {
+fn bad_entries_elsewhere(out: &mut impl Write) -> io::Result<()> {
     let mut area = [0u8; 72];
     make_bad(&mut area, 43, b"\x09");
     area[5] = 2;
-    show_check(b"header of 9 in version 2", &area, 0x1000);
+    show_check(out, b"header of 9 in version 2", &area, 0x1000)?;
     area[59] = 7;
-    show_check(b"header of 7 in version 2", &area, 0x1000);
+    show_check(out, b"header of 7 in version 2", &area, 0x1000)?;
     let tidied = tidy::tidy(&mut area, 0x1000);
-    show_done(b"header of 7 in version 2 tidy", tidied, &area);
+    show_done(out, b"header of 7 in version 2 tidy", tidied, &area)?;
     let old =
         b"\xff\xd0\x6e\0\xf9\x01\x10\x03\x30\0\0\0\x30\0\0\0\x01\0\0\x08\x03\0\0\0\xaa\xbb\xcc\0\0\0\0\0\0\0\0\x08\x03\0\0\0\0\0\0\0\0\0\0\0";
-    show_check09(b"09 void of 3", old, 0x1000);
-    show_find09(b"09 void of 3", old, 0x1000, 1, 0);
-    show_convert09(b"09 void of 3 convert", old, 0x1000, 0x2000);
+    show_check09(out, b"09 void of 3", old, 0x1000)?;
+    show_find09(out, b"09 void of 3", old, 0x1000, 1, 0)?;
+    show_convert09(out, b"09 void of 3 convert", old, 0x1000, 0x2000)
 }
 
 // A journalled call's answer, the area and the journal.
-fn show_both(example: &[u8], a: DoneAnswer, area: &[u8], journal: &[u8]) {
-    io::write_all(1, example);
-    number(a.number);
-    number(a.value);
-    number(a.at);
-    show_bytes(area);
-    io::write_all(1, b" |");
-    show_bytes(journal);
-    io::write_all(1, b"\n");
+fn show_both(
+    out: &mut impl Write,
+    example: &[u8],
+    a: DoneAnswer,
+    area: &[u8],
+    journal: &[u8],
+) -> io::Result<()> {
+    out.write_all(example)?;
+    number(out, a.number)?;
+    number(out, a.value)?;
+    number(out, a.at)?;
+    show_bytes(out, area)?;
+    out.write_all(b" |")?;
+    show_bytes(out, journal)?;
+    out.write_all(b"\n")
 }
 
 // A list of 64 bytes with tag 1, aa bb cc.
@@ -1070,192 +1152,267 @@ fn make_one(area: &mut [u8]) {
 }
 
 // Its entry voided: words 0, 24 and 32 change, so that four records are enough.
-fn journalled_void(example: &[u8], journal: &mut [u8]) {
+fn journalled_void(out: &mut impl Write, example: &[u8], journal: &mut [u8]) -> io::Result<()> {
     let mut area = [0u8; 64];
     make_one(&mut area);
     let a = journalled::forms::void(&mut area, 0x1000, 1, 0, journal);
-    show_both(example, a, &area, journal);
+    show_both(out, example, a, &area, journal)
 }
 
 // Tag 2 with 5a added behind it: words 0, 8, 40 and 48 change.
-fn journalled_add(example: &[u8], tag: u32, journal: &mut [u8]) {
+fn journalled_add(
+    out: &mut impl Write,
+    example: &[u8],
+    tag: u32,
+    journal: &mut [u8],
+) -> io::Result<()> {
     let mut area = [0u8; 64];
     make_one(&mut area);
     let a = journalled::forms::add(&mut area, 0x1000, tag, b"\x5a", true, journal);
-    show_both(example, a, &area, journal);
+    show_both(out, example, a, &area, journal)
 }
 
 // The same, aligned: to 32 it would stand behind a padding void of 16 bytes, and has no room.
-fn journalled_aligned(example: &[u8], exponent: u32, journal: &mut [u8]) {
+fn journalled_aligned(
+    out: &mut impl Write,
+    example: &[u8],
+    exponent: u32,
+    journal: &mut [u8],
+) -> io::Result<()> {
     let mut area = [0u8; 64];
     make_one(&mut area);
     let a = journalled::forms::add_aligned(&mut area, 0x1000, 2, b"\x5a", exponent, journal);
-    show_both(example, a, &area, journal);
+    show_both(out, example, a, &area, journal)
 }
 
-fn journalled_edits() {
+fn journalled_edits(out: &mut impl Write) -> io::Result<()> {
     let mut exact = [0u8; 64];
     put_part(&mut exact, 1, b"\xee");
-    journalled_void(b"void, four records", &mut exact);
-    journalled_void(b"void, four records and 15 bytes", &mut [0u8; 79]);
-    journalled_void(b"void, three records and 15 bytes", &mut [0u8; 63]);
-    journalled_void(b"void, no journal", &mut []);
+    journalled_void(out, b"void, four records", &mut exact)?;
+    journalled_void(out, b"void, four records and 15 bytes", &mut [0u8; 79])?;
+    journalled_void(out, b"void, three records and 15 bytes", &mut [0u8; 63])?;
+    journalled_void(out, b"void, no journal", &mut [])?;
     let mut kind = [0u8; 96];
     put_part(&mut kind, 80, b"\x01");
-    journalled_void(b"void, a kind behind", &mut kind);
-    journalled_add(b"add, five records", 2, &mut [0u8; 80]);
-    journalled_add(b"add, four records", 2, &mut [0u8; 64]);
-    journalled_add(b"add, tag 0, no journal", 0, &mut []);
-    journalled_aligned(b"add aligned to 8, five records", 3, &mut [0u8; 80]);
-    journalled_aligned(b"add aligned to 32, no journal", 5, &mut []);
+    journalled_void(out, b"void, a kind behind", &mut kind)?;
+    journalled_add(out, b"add, five records", 2, &mut [0u8; 80])?;
+    journalled_add(out, b"add, four records", 2, &mut [0u8; 64])?;
+    journalled_add(out, b"add, tag 0, no journal", 0, &mut [])?;
+    journalled_aligned(out, b"add aligned to 8, five records", 3, &mut [0u8; 80])?;
+    journalled_aligned(out, b"add aligned to 32, no journal", 5, &mut [])
 }
 
 // An area of 20 bytes, ff each, and a journal of two records, recovered.
-fn recovery(example: &[u8], first: &[u8], second: &[u8]) {
+fn recovery(out: &mut impl Write, example: &[u8], first: &[u8], second: &[u8]) -> io::Result<()> {
     let mut area = [0xffu8; 20];
     let mut journal = [0u8; 33];
     put_part(&mut journal, 0, first);
     put_part(&mut journal, 16, second);
     let a = steps::whole::recover(&mut area, &mut journal);
-    show_both(example, a, &area, &journal);
+    show_both(out, example, a, &area, &journal)
 }
 
-fn recoveries() {
+fn recoveries(out: &mut impl Write) -> io::Result<()> {
     let word = b"\x01\0\0\0\x08\0\0\0\x11\x12\x13\x14\x15\x16\x17\x18";
     let odd = b"\x01\0\0\0\x04\0\0\0\x11\x12\x13\x14\x15\x16\x17\x18";
     let far = b"\x01\0\0\0\x10\0\0\0\x11\x12\x13\x14\x15\x16\x17\x18";
     let last = b"\x01\0\0\0\xf8\xff\xff\xff\x11\x12\x13\x14\x15\x16\x17\x18";
-    recovery(b"recover, empty", b"", b"");
-    recovery(b"recover, word and commit", word, b"\x02");
-    recovery(b"recover, word and no commit", word, b"");
-    recovery(b"recover, commit and word", b"\x02", word);
-    recovery(b"recover, word and kind 3", word, b"\x03");
-    recovery(b"recover, commit and kind 3", b"\x02", b"\x03");
-    recovery(b"recover, odd offset", odd, b"\x02");
-    recovery(b"recover, odd offset, no commit", odd, b"");
-    recovery(b"recover, offset 16 of 20", far, b"\x02");
-    recovery(b"recover, offset 0xfffffff8", last, b"\x02");
+    recovery(out, b"recover, empty", b"", b"")?;
+    recovery(out, b"recover, word and commit", word, b"\x02")?;
+    recovery(out, b"recover, word and no commit", word, b"")?;
+    recovery(out, b"recover, commit and word", b"\x02", word)?;
+    recovery(out, b"recover, word and kind 3", word, b"\x03")?;
+    recovery(out, b"recover, commit and kind 3", b"\x02", b"\x03")?;
+    recovery(out, b"recover, odd offset", odd, b"\x02")?;
+    recovery(out, b"recover, odd offset, no commit", odd, b"")?;
+    recovery(out, b"recover, offset 16 of 20", far, b"\x02")?;
+    recovery(out, b"recover, offset 0xfffffff8", last, b"\x02")?;
     let mut area = [0xffu8; 8];
     let mut short = [0x03u8; 15];
     let a = steps::whole::recover(&mut area, &mut short);
-    show_both(b"recover, no whole record", a, &area, &short);
+    show_both(out, b"recover, no whole record", a, &area, &short)
 }
 
-fn show_step(example: &[u8], r: Stepped, area: &[u8], journal: &[u8]) {
+fn show_step(
+    out: &mut impl Write,
+    example: &[u8],
+    r: Stepped,
+    area: &[u8],
+    journal: &[u8],
+) -> io::Result<()> {
     let a = r.done;
-    io::write_all(1, example);
-    number(r.ended);
-    number(a.number);
-    number(a.value);
-    number(a.at);
-    show_bytes(area);
-    io::write_all(1, b" |");
-    show_bytes(journal);
-    io::write_all(1, b"\n");
+    out.write_all(example)?;
+    number(out, r.ended)?;
+    number(out, a.number)?;
+    number(out, a.value)?;
+    number(out, a.at)?;
+    show_bytes(out, area)?;
+    out.write_all(b" |")?;
+    show_bytes(out, journal)?;
+    out.write_all(b"\n")
 }
 
 // One step, shown.
-fn show_next(r: Stepped, area: &mut [u8], journal: &mut [u8]) -> Stepped {
+fn show_next(
+    out: &mut impl Write,
+    r: Stepped,
+    area: &mut [u8],
+    journal: &mut [u8],
+) -> io::Result<Stepped> {
     let s = r.state;
     let next = steps::advance::step(s, area, b"", journal);
-    show_step(b"step", next, area, journal);
-    next
+    show_step(out, b"step", next, area, journal)?;
+    Ok(next)
 }
 
 // The void's first four bytes, then the power is cut, and the recovery: four kinds are cleared, and it has ended; a step more.
-fn stepped_void() {
+fn stepped_void(out: &mut impl Write) -> io::Result<()> {
     let mut area = [0u8; 64];
     let mut journal = [0u8; 64];
     make_one(&mut area);
     let r = journalled::starts::void(&area, 0x1000, 1, 0, &journal).report();
-    show_step(b"void steps", r, &area, &journal);
-    let a = show_next(r, &mut area, &mut journal);
-    let b = show_next(a, &mut area, &mut journal);
-    let c = show_next(b, &mut area, &mut journal);
-    show_next(c, &mut area, &mut journal);
+    show_step(out, b"void steps", r, &area, &journal)?;
+    let a = show_next(out, r, &mut area, &mut journal)?;
+    let b = show_next(out, a, &mut area, &mut journal)?;
+    let c = show_next(out, b, &mut area, &mut journal)?;
+    show_next(out, c, &mut area, &mut journal)?;
     let cut = steps::begin::recover_start(&area, &journal).report();
-    show_step(b"recover steps", cut, &area, &journal);
-    let d = show_next(cut, &mut area, &mut journal);
-    let e = show_next(d, &mut area, &mut journal);
-    let f = show_next(e, &mut area, &mut journal);
-    let end = show_next(f, &mut area, &mut journal);
-    show_next(end, &mut area, &mut journal);
+    show_step(out, b"recover steps", cut, &area, &journal)?;
+    let d = show_next(out, cut, &mut area, &mut journal)?;
+    let e = show_next(out, d, &mut area, &mut journal)?;
+    let f = show_next(out, e, &mut area, &mut journal)?;
+    let end = show_next(out, f, &mut area, &mut journal)?;
+    show_next(out, end, &mut area, &mut journal)?;
+    Ok(())
 }
 
 // A step on a state that none left: 17, and again.
-fn foreign_state() {
+fn foreign_state(out: &mut impl Write) -> io::Result<()> {
     let mut area = [0u8; 8];
     let mut journal = [0u8; 16];
     let mut s = steps::begin::recover_start(&area, &journal);
     s.phase = 99;
     let r = steps::advance::step(s, &mut area, b"", &mut journal);
-    show_step(b"phase 99", r, &area, &journal);
-    show_next(r, &mut area, &mut journal);
+    show_step(out, b"phase 99", r, &area, &journal)?;
+    show_next(out, r, &mut area, &mut journal)?;
+    Ok(())
 }
 
-fn main() {
-    examples_a_to_d();
-    example_e(b"0123456789abcdefg");
-    example_e(b"0123456789abcdef");
-    example_e(b"012345678");
-    example_e(b"01234567");
-    example_f();
-    example_g();
-    example_h();
-    example_i();
-    example_j(b"J2", 2);
-    example_j(b"J22", 22);
-    example_j(b"J3", 3);
-    example_j(b"J12", 12);
-    example_j(b"J13", 13);
-    example_j(b"J21", 21);
-    example_k();
-    example_m();
-    example_n();
-    examples_09();
-    conversions_09();
-    event_log(b"event log of 0", b"");
-    event_log(b"event log of 3", b"\x01\0\0");
-    event_log(b"event log of 4", b"\x01\0\0\0");
-    event_log(b"event log of 5", b"\x01\0\0\0\x5a");
-    short_event_log();
-    tidy_six(b"no void", 1, 1, 1, 1, 1);
-    tidy_six(b"lone void", 0, 1, 1, 1, 1);
-    tidy_six(b"voids at the start", 0, 0, 1, 1, 1);
-    tidy_six(b"voids in the middle", 1, 1, 0, 0, 1);
-    tidy_six(b"voids at the end", 1, 1, 1, 0, 0);
-    tidy_six(b"voids everywhere", 0, 0, 0, 1, 0);
-    tidy_only_voids();
-    tidy_without_checksum();
-    tidy_for_room();
-    tidy_nothing();
-    xors();
-    gates();
-    gauges();
-    certificates_in_a_list();
-    certificate_of(b"certificate of 55", &[0u8; 55]);
-    certificate_of(b"certificate of 56", &[0u8; 56]);
-    certificate_of(b"certificate of 57", &[0u8; 57]);
-    certificate_beside_12();
-    certificate_of_55();
-    certificate_at_odd_address();
-    fdt_headers();
-    fdt_lengths();
-    fdt_names_and_values();
-    fdt_structures();
-    fdt_finds();
-    aligned_near(b"exponent 13", 0x1fc0, 13);
-    aligned_near(b"exponent 21", 0x1f_ffc0, 21);
-    aligned_near(b"exponent 21 far", 0x1000, 21);
-    aligned_near(b"exponent 22", 0x3f_ffc0, 22);
-    aligned_far();
-    relocations_21();
-    alignments_09();
-    bad_entries();
-    bad_entry_calls();
-    bad_entries_elsewhere();
-    journalled_edits();
-    recoveries();
-    stepped_void();
-    foreign_state();
+// The paper's examples.
+fn examples_a_to_n(out: &mut impl Write) -> io::Result<()> {
+    examples_a_to_d(out)?;
+    example_e(out, b"0123456789abcdefg")?;
+    example_e(out, b"0123456789abcdef")?;
+    example_e(out, b"012345678")?;
+    example_e(out, b"01234567")?;
+    example_f(out)?;
+    example_g(out)?;
+    example_h(out)?;
+    example_i(out)?;
+    example_j(out, b"J2", 2)?;
+    example_j(out, b"J22", 22)?;
+    example_j(out, b"J3", 3)?;
+    example_j(out, b"J12", 12)?;
+    example_j(out, b"J13", 13)?;
+    example_j(out, b"J21", 21)?;
+    example_k(out)?;
+    example_m(out)?;
+    example_n(out)
+}
+
+// Edition 0.9.
+fn edition_09(out: &mut impl Write) -> io::Result<()> {
+    examples_09(out)?;
+    conversions_09(out)
+}
+
+// The event log's length.
+fn event_logs(out: &mut impl Write) -> io::Result<()> {
+    event_log(out, b"event log of 0", b"")?;
+    event_log(out, b"event log of 3", b"\x01\0\0")?;
+    event_log(out, b"event log of 4", b"\x01\0\0\0")?;
+    event_log(out, b"event log of 5", b"\x01\0\0\0\x5a")?;
+    short_event_log(out)
+}
+
+// Tidying.
+fn tidyings(out: &mut impl Write) -> io::Result<()> {
+    tidy_six(out, b"no void", 1, 1, 1, 1, 1)?;
+    tidy_six(out, b"lone void", 0, 1, 1, 1, 1)?;
+    tidy_six(out, b"voids at the start", 0, 0, 1, 1, 1)?;
+    tidy_six(out, b"voids in the middle", 1, 1, 0, 0, 1)?;
+    tidy_six(out, b"voids at the end", 1, 1, 1, 0, 0)?;
+    tidy_six(out, b"voids everywhere", 0, 0, 0, 1, 0)?;
+    tidy_only_voids(out)?;
+    tidy_without_checksum(out)?;
+    tidy_for_room(out)?;
+    tidy_nothing(out)
+}
+
+// The test certificate.
+fn certificates(out: &mut impl Write) -> io::Result<()> {
+    gates(out)?;
+    gauges(out)?;
+    certificates_in_a_list(out)?;
+    certificate_of(out, b"certificate of 55", &[0u8; 55])?;
+    certificate_of(out, b"certificate of 56", &[0u8; 56])?;
+    certificate_of(out, b"certificate of 57", &[0u8; 57])?;
+    certificate_beside_12(out)?;
+    certificate_of_55(out)?;
+    certificate_at_odd_address(out)
+}
+
+// The device tree.
+fn device_trees(out: &mut impl Write) -> io::Result<()> {
+    fdt_headers(out)?;
+    fdt_lengths(out)?;
+    fdt_names_and_values(out)?;
+    fdt_structures(out)?;
+    fdt_finds(out)
+}
+
+// Alignments up to 21.
+fn alignments(out: &mut impl Write) -> io::Result<()> {
+    aligned_near(out, b"exponent 13", 0x1fc0, 13)?;
+    aligned_near(out, b"exponent 21", 0x1f_ffc0, 21)?;
+    aligned_near(out, b"exponent 21 far", 0x1000, 21)?;
+    aligned_near(out, b"exponent 22", 0x3f_ffc0, 22)?;
+    aligned_far(out)?;
+    relocations_21(out)?;
+    alignments_09(out)
+}
+
+// Where the bad entry is.
+fn all_bad_entries(out: &mut impl Write) -> io::Result<()> {
+    bad_entries(out)?;
+    bad_entry_calls(out)?;
+    bad_entries_elsewhere(out)
+}
+
+// The journal.
+fn journals(out: &mut impl Write) -> io::Result<()> {
+    journalled_edits(out)?;
+    recoveries(out)?;
+    stepped_void(out)?;
+    foreign_state(out)
+}
+
+// The whole text, in the order of the file stdout.
+fn show_all(out: &mut impl Write) -> io::Result<()> {
+    examples_a_to_n(out)?;
+    edition_09(out)?;
+    event_logs(out)?;
+    tidyings(out)?;
+    xors(out)?;
+    certificates(out)?;
+    device_trees(out)?;
+    alignments(out)?;
+    all_bad_entries(out)?;
+    journals(out)
+}
+
+fn main(rt: HostRuntime) -> io::Result<()> {
+    let mut out = BufWriter::new(rt.alloc(), io::writer(&rt))?;
+    show_all(&mut out)?;
+    out.flush()
 }
