@@ -44,7 +44,7 @@ show: target/demo/show
 	target/demo/show $(FILE) $(BASE)
 
 test: header-check symbols-check ctest oracle-test compare run
-	rt ci
+	tools/gate
 
 lib: $(LIB)
 
