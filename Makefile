@@ -3,7 +3,7 @@
 #                an edit, the loop that steps and flushes, a list of edition 0.9 converted
 # make show      the entries of a list in a file, up to a bad one, which it points at: FILE=.. BASE=..; without a file, two samples
 # make test      everything that is checked; ends with rt ci, whose last line is 'N passed, 0 failed'
-# make lib       target/staticlib/libtransfer_list.a, for C on x86-64
+# make lib       target/staticlib/libtransfer_list.a, for C on x86-64-v2
 # make install   the archive, the header and a pkg-config file under PREFIX (default /usr/local)
 # make ctest     a C program over the header: every answer and byte as stored; the structures' layout
 # make cuts      the compiled calls with a journal, cut after each instruction that stores; it fails where ptrace is not permitted

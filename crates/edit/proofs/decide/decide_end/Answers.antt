@@ -18,7 +18,7 @@ overflow_sub-room c =
 pub returns-then-room-padding : goal.returns-then-room-padding
 returns-then-room-padding c =
     let m = c.requires.0 in
-    let d = decides_refused _ _ _ _ _ (no_room _ _ _ m _ _ _ _ c.if-room-padding.true) in
+    let d = decides_refused _ _ _ _ _ (no_room _ _ _ m _ _ _ _ (omega arith)) in
     record { decides = d.0; value = d.1 }
 
 pub with_checksum-requires : goal.with_checksum-requires
