@@ -23,7 +23,9 @@ ghost use Rattle.rules.specs.Certificate.{
   certified as certified_rule,
 };
 
-use rules::certificate::{Calibration, Certificate, Certified, Gate};
+use crate::kind::Kind;
+use rules::certificate::{Calibration, Certificate, Gate, Uncertified, Verdict};
+use wire::Number;
 
 // The pattern of infinity: the exponent's bits are all ones, and those below all zeros.
 const INFINITY: u64 = 0x7ff0_0000_0000_0000;
@@ -34,14 +36,14 @@ fn read_certificate(d: &[u8]) -> Certificate
     ensures { result ≡ certificate_of d.now }
 {
     Certificate {
-        serial: wire::read8(d, 0),
-        test: wire::read8(d, 8),
-        kind: wire::read4(d, 16),
-        counts: wire::read4(d, 20),
-        gain: wire::read8(d, 24),
-        offset: wire::read8(d, 32),
-        low: wire::read8(d, 40),
-        high: wire::read8(d, 48),
+        serial: u64::read(d, 0),
+        test: u64::read(d, 8),
+        kind: u32::read(d, 16),
+        counts: u32::read(d, 20),
+        gain: u64::read(d, 24),
+        offset: u64::read(d, 32),
+        low: u64::read(d, 40),
+        high: u64::read(d, 48),
     }
 }
 
@@ -86,19 +88,17 @@ fn reading_of(c: Certificate) -> f64
     reading(calibration(c), c.counts)
 }
 
-// The gate of a certificate whose kind is known.
+// The gate of a certificate whose kind is known; an unknown one, which refusal 20 turns away, counts as a floor.
 fn gate_of(c: Certificate) -> Gate
     ensures { result ≡ gate_of c }
 {
     let low = float(c.low);
     let high = float(c.high);
-    if c.kind == Gate::BAND {
-        return Gate::Band { low, high };
+    match Kind::try_from(c.kind).unwrap_or(Kind::Floor) {
+        Kind::Band => Gate::Band { low, high },
+        Kind::Ceiling => Gate::Ceiling { high },
+        Kind::Floor => Gate::Floor { low },
     }
-    if c.kind == Gate::CEILING {
-        return Gate::Ceiling { high };
-    }
-    Gate::Floor { low }
 }
 
 // Refusal 19.
@@ -112,7 +112,7 @@ fn refuses_identity(c: Certificate, serial: u64, test: u64) -> bool
 fn unknown_kind(kind: u32) -> bool
     ensures { result ≡ unknown_kind kind }
 {
-    !((kind == Gate::BAND) | (kind == Gate::CEILING) | (kind == Gate::FLOOR))
+    Kind::try_from(kind).is_err()
 }
 
 // Counts exceed 2^24.
@@ -122,7 +122,7 @@ fn counts_exceed(counts: u32) -> bool
     Certificate::MAX_COUNTS < counts
 }
 
-// Infinite or no number. Neither lies strictly between the infinities.
+// Infinite or no number; the language's f64 has no test for it. Neither lies strictly between the infinities.
 fn not_finite(x: f64) -> bool
     ensures { result ≡ not_finite x }
 {
@@ -141,14 +141,21 @@ fn not_above_zero(x: f64) -> bool
 fn unused_not_zero(c: Certificate) -> bool
     ensures { result ≡ unused_not_zero c }
 {
-    ((c.kind == Gate::CEILING) & (c.low != 0)) | ((c.kind == Gate::FLOOR) & (c.high != 0))
+    match Kind::try_from(c.kind) {
+        Ok(Kind::Ceiling) => c.low != 0,
+        Ok(Kind::Floor) => c.high != 0,
+        _ => false,
+    }
 }
 
 // A band's low exceeds its high.
 fn low_exceeds_high(c: Certificate) -> bool
     ensures { result ≡ low_exceeds_high c }
 {
-    (c.kind == Gate::BAND) & (float(c.high) < float(c.low))
+    match Kind::try_from(c.kind) {
+        Ok(Kind::Band) => float(c.high) < float(c.low),
+        _ => false,
+    }
 }
 
 // Refusal 20.
@@ -179,27 +186,25 @@ fn passes(g: Gate, x: f64) -> bool
 }
 
 // Refusal 20, or the reading with pass or fail.
-fn judge(c: Certificate) -> Certified
+fn judge(c: Certificate) -> Result<Verdict, Uncertified>
     ensures { result ≡ judged c }
 {
     if refuses_contents(c) {
-        return Certified::Unsound;
+        return Err(Uncertified::Unsound);
     }
-    let x = reading_of(c);
-    Certified::Read {
-        reading: x,
-        pass: passes(gate_of(c), x),
-    }
+    let reading = reading_of(c);
+    let pass = passes(gate_of(c), reading);
+    Ok(Verdict { reading, pass })
 }
 
 // Refusals 19 and 20 of the certificate that d starts with, or the reading with pass or fail.
-pub(crate) fn certified(d: &[u8], serial: u64, test: u64) -> Certified
+pub(crate) fn certified(d: &[u8], serial: u64, test: u64) -> Result<Verdict, Uncertified>
     requires { certificate_size ≤ length d.now }
     ensures { result ≡ certified_rule serial test (certificate_of d.now) }
 {
     let c = read_certificate(d);
     if refuses_identity(c, serial, test) {
-        return Certified::Another;
+        return Err(Uncertified::Another);
     }
     judge(c)
 }

@@ -3,3 +3,4 @@
 
 pub mod certify;
 mod contents;
+mod kind;

@@ -7,14 +7,17 @@ use mathlib.Core.Bool.{Bool, true, false}
 use mathlib.Core.List.{List, ◌++◌, append_assoc}
 use lib.ListN.{length, take, drop, set, replicate, length-append, length-replicate}
 use lib.Seq.{take_at, set-get_or}
+use borrow.Author.Tests.{le-leb, lt-leb}
 use Rattle.wire.specs.Bytes.{le_bytes, xor, splice}
 use Rattle.wire.proofs.Splice.{splice-append, splice_snoc, splice_all}
 use Rattle.wire.proofs.Field.{length-le_bytes}
 use Rattle.rules.specs.declared.Header.{Header}
-use Rattle.rules.specs.Area.{down8}
+use Rattle.rules.specs.declared.Refusal.TheVariants.{Area, Short}
+use Rattle.rules.specs.Area.{down8, usable}
 use Rattle.rules.specs.Header.{header_bytes, fresh_header}
 use Rattle.rules.specs.Checksum.{seal}
-use Rattle.rules.specs.Create.{fresh_list}
+use Rattle.rules.specs.Outcome.{refused, done}
+use Rattle.rules.specs.Create.{fresh_list, create}
 use Rattle.laws.proofs.FreshList.{length-header_bytes, fresh_created, unsealed}
 
 -- bytes written behind the first i of them
@@ -65,21 +68,43 @@ fields a h l c v s m =
     )
     (simp append_assoc)
 
--- a header and zeros behind it, up to the end of the list
-pub filled : (a h : List ℕ) → length h ≡ 24 → 24 ≤ length a
-    → splice (splice a 0 h) 24 (replicate (length a - 24) 0) ≡ h ++ replicate (length a - 24) 0
-filled a h e l =
+-- ---- what create comes to
+
+module _ (a : List ℕ) (base : ℕ) (has b : Bool) (u : b ≡ usable base (length a)) where
+  -- an area that is not usable
+  pub unusable : b ≡ false → create a base has ≡ refused Area
+  unfolding create
+  unusable k = simp (← u, k)
+
+  -- a usable one with no room behind the header
+  pub too_short : b ≡ true → length a ≤ 24 → create a base has ≡ refused Short
+  unfolding create
+  too_short k l = simp (← u, k, le-leb _ _ l)
+
+  -- and one with room
+  pub created : b ≡ true → 24 < length a → create a base has ≡ done (down8 (length a)) (fresh_list (length a) has)
+  unfolding create
+  created k l = simp (← u, k, lt-leb _ _ l)
+
+-- ---- the bytes that it leaves
+
+-- a new header and zeros behind it, up to the end of the list
+pub laid_out : (a b c : List ℕ) (h : Header) (has : Bool) → 24 ≤ length a → h ≡ fresh_header (down8 (length a)) has
+    → b ≡ splice a 0 (header_bytes h) → c ≡ splice b 24 (replicate (length a - 24) 0) → c ≡ unsealed (length a) has
+laid_out a b c h has l eh eb ec =
+    let n : length (header_bytes h) ≡ 24 = length-header_bytes h in
     let z : List ℕ = replicate (length a - 24) 0 in
-    let f : length (h ++ z) ≡ length a = rw (length-append, length-replicate, e) (omega arith) in
-    next a h z 24 e ∙ splice_all a (h ++ z) f
+    let f : length (header_bytes h ++ z) ≡ length a = rw (length-append, length-replicate, n) (omega arith) in
+    rw (ec, eb, next a (header_bytes h) z 24 n, splice_all a (header_bytes h ++ z) f, eh)
 
 -- with has_checksum byte 4 becomes the exclusive or of the header
-pub fresh_summed : (len : ℕ) (has : Bool) → has ≡ true → set (unsealed len has) 4 (xor (take 24 (drop 0 (unsealed len has)))) ≡ fresh_list len has
+pub fresh_summed : (len : ℕ) (has : Bool) (l : List ℕ) (x : ℕ) → l ≡ unsealed len has → x ≡ xor (take 24 (drop 0 l)) → has ≡ true
+    → set l 4 x ≡ fresh_list len has
 unfolding fresh_list seal
-fresh_summed len has e =
+fresh_summed len has l x el ex e =
     let h : List ℕ = header_bytes (fresh_header (down8 len) has) in
     let z : List ℕ = replicate (len - 24) 0 in
-    ap (set (h ++ z) 4) (ap xor (take_at h z 24 (length-header_bytes _)) ∙ sym (fresh_created (down8 len) (len - 24) has ∙ rw e))
+    rw (ex, el) (ap (set (h ++ z) 4) (ap xor (take_at h z 24 (length-header_bytes _)) ∙ sym (fresh_created (down8 len) (len - 24) has ∙ rw e)))
 
 -- without it byte 4 stays 0
 pub fresh_unsummed : (len : ℕ) (has : Bool) → has ≡ false → unsealed len has ≡ fresh_list len has

@@ -7,44 +7,44 @@ ghost use Rattle.rules.specs.Header.{header_size, header_bytes};
 ghost use Rattle.rules.specs.Outcome.{answer, bytes_after};
 ghost use Rattle.rules.specs.Create.{create as create_rule};
 
-use rules::{Done, Header, Refusal};
+use rules::{Header, Refusal};
 use walk::header;
+use wire::Number;
 
 // The header's bytes, field after field.
 pub fn write_header(a: &mut [u8], h: Header)
     requires { header_size ≤ length a.old }
     ensures { a.new ≡ splice a.old 0 (header_bytes h) }
 {
-    wire::write4(a, 0, h.signature);
+    h.signature.write(a, 0);
     a[4] = h.checksum;
     a[5] = h.version;
     a[6] = h.hdr_size;
     a[7] = h.alignment;
-    wire::write4(a, 8, h.used_size);
-    wire::write4(a, 12, h.total_size);
-    wire::write4(a, 16, h.flags);
-    wire::write4(a, 20, h.reserved);
+    h.used_size.write(a, 8);
+    h.total_size.write(a, 12);
+    h.flags.write(a, 16);
+    h.reserved.write(a, 20);
 }
 
 // Writes a new list: the header, and zero in every further byte. Answers the total.
-pub fn create(area: &mut [u8], base: u64, has_checksum: bool) -> Done
+pub fn create(area: &mut [u8], base: u64, has_checksum: bool) -> Result<u32, Refusal>
     ensures value { result ≡ answer (create_rule area.old base has_checksum) }
     ensures area_after { area.new ≡ bytes_after area.old (create_rule area.old base has_checksum) }
 {
     let len = area.len();
     if !header::usable(base, len) {
-        return Done::Refused(Refusal::Area);
+        return Err(Refusal::Area);
     }
     let size = Header::SIZE as usize;
     if len <= size {
-        return Done::Refused(Refusal::Short);
+        return Err(Refusal::Short);
     }
     let total = (len / 8 * 8) as u32;
     write_header(area, Header::fresh(total, has_checksum));
     wire::zero_part(area, size, len - size);
     if has_checksum {
-        let x = wire::xor_part(area, 0, size);
-        area[4] = x;
+        area[4] = wire::xor(&area[..size]);
     }
-    Done::Value(total)
+    Ok(total)
 }

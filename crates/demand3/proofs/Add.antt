@@ -1,11 +1,11 @@
 -- Demand 3 for add: behind the last entry, or in the place of a void.
+use Rattle.std.specs.Prelude.{None, Option, Some}
 use mathlib.Core.Path.{◌≡◌, refl, sym, ◌∙◌}
 use mathlib.Core.Logic.{inl}
 use Prim.Native.Nat.{ℕ, ◌+◌, ◌^◌, ◌≤◌, ◌<◌}
 use native.Mathlib.Omega.{arith}
 use mathlib.Core.Bool.{Bool, false, ◌&&◌, cond}
 use mathlib.Core.List.{List, [], ◌∷◌, ◌++◌, append-nil}
-use mathlib.Core.Option.{Option, none, some}
 use lib.ListN.{length, length-append}
 use lib.Dec.{leb, ltb}
 use borrow.Author.Tests.{ltb-false}
@@ -110,10 +110,10 @@ add_holds a base tag value content use_voids bytes accepted h =
   where
     go : (o : Option Entry) → taken_void use_voids (length content) a ≡ o → 0 < tag → tag < 2 ^ 24 → add_at a tag content o ≡ done value bytes
         → Holds (to_add tag content use_voids) a base value bytes
-    go (some e) f s l y =
+    go (Some e) f s l y =
         let b : seal (splice a e.at (filling tag content e.data_size)) ≡ bytes = cc in
         add-void_holds a base tag value content use_voids bytes e s l f b accepted
-    go none f s l y =
+    go None f s l y =
         let end : Outcome = done (used_of a + entry_header_size) (seal (append a (entry_bytes tag content))) in
         let k = passed (ltb (room a) (entry_span (length content))) Room end value bytes y in
         let d : done (used_of a + entry_header_size) (seal (append a (entry_bytes tag content))) ≡ done value bytes = k.1 in

@@ -1,13 +1,14 @@
 -- Demand 3 for an add that takes a void.
+use Rattle.std.specs.Prelude.{Some}
 use mathlib.Core.Path.{◌≡◌, refl, sym, ◌∙◌, subst}
 use Prim.Native.Nat.{ℕ, ◌+◌, ◌-◌, ◌%◌, ◌^◌, ◌≤◌, ◌<◌}
 use native.Mathlib.Omega.{arith}
 use mathlib.Core.Bool.{Bool, true, false, cond}
 use mathlib.Core.List.{List, [], ◌∷◌, ◌++◌}
-use mathlib.Core.Option.{some}
 use lib.ListN.{length, length-append}
 use lib.Dec.{leb}
 use borrow.Author.Tests.{leb-true, leb-false}
+use Rattle.wire.proofs.Apart.{apart}
 use Rattle.wire.specs.Bytes.{splice}
 use Rattle.rules.specs.declared.Entry.{Entry}
 use Rattle.rules.specs.Area.{max_length}
@@ -61,7 +62,7 @@ put_there a xs e ys x p empty =
     rw (b, l) (put_in_lem (live_count xs) x (live_in a xs) (live_in a ys) (live-length a xs))
 
 module _ (a : List ℕ) (base tag value : ℕ) (content : List ℕ) (use_voids : Bool) (bytes : List ℕ) (e : Entry) (solid : 0 < tag)
-    (low : tag < 2 ^ 24) (found : taken_void use_voids (length content) a ≡ some e)
+    (low : tag < 2 ^ 24) (found : taken_void use_voids (length content) a ≡ Some e)
     (is : seal (splice a e.at (filling tag content e.data_size)) ≡ bytes) where
   -- the entry in the place of the void e
   filled : (xs ys : List Entry) → entries_of a ≡ xs ++ (e ∷ ys) → Ready a base (xs ++ (e ∷ ys)) → is_void e ≡ true
@@ -96,6 +97,6 @@ module _ (a : List ℕ) (base tag value : ℕ) (content : List ℕ) (use_voids :
       let k = first_fit_lem (length content) (entries_of a) e (seek use_voids found) in
       filled k.0.before k.0.behind k.0.whole (subst (Ready a base) k.0.whole (ready_of a base accepted)) k.1 k.2
     where
-      seek : (b : Bool) → taken_void b (length content) a ≡ some e → first_fit (length content) (entries_of a) ≡ some e
+      seek : (b : Bool) → taken_void b (length content) a ≡ Some e → first_fit (length content) (entries_of a) ≡ Some e
       seek true h = h
-      seek false h = absurd (let z : ◌≡◌ {A = ℕ} 0 1 = cc in omega arith)
+      seek false h = apart cc

@@ -37,7 +37,7 @@ use Rattle.rules.specs.Edition09.{
 use Rattle.laws.proofs.Passed.{target_reach}
 use Rattle.laws.proofs.Check.{Usable, Sound, used-least, used-most}
 use Rattle.laws.proofs.Row.{Agree, later}
-use Rattle.laws.proofs.Lists.{get_d_part}
+use Rattle.laws.proofs.Lists.{get_or_part}
 use Rattle.laws.proofs.Live.{Read, read_agree}
 use Rattle.laws.proofs.Power.{power_positive, power_eights, eights_same}
 use Rattle.laws.proofs.NewBase.{grown_base-least, grown_base-mod, addresses-later}
@@ -69,7 +69,7 @@ module _ (a : List ℕ) (base : ℕ) (s : Sound edition09 a base) (v : (header_o
       (get_or-append (unsealed09 a room) z 0 (growth + i) (omega (arith, unsealed_length))
       ∙ ap (λ (k : ℕ). get_or (unsealed09 a room) k 0) q
       ∙ get_or-append-add b (old_entries a) j 0
-      ∙ get_d_part a 16 (used_of a - 16) j (omega arith)
+      ∙ get_or_part a 16 (used_of a - 16) j (omega arith)
       ∙ ap (λ (k : ℕ). get_or a k 0) p)
 
   -- with any bytes behind it, it starts with its fields,

@@ -1,14 +1,14 @@
 -- What an edit that is done has passed, and demand 3 for an edit in place: the theorem for any list that is changed and sealed.
+use Rattle.std.specs.Prelude.{Err, Ok, Result}
+use Rattle.wire.proofs.Apart.{apart}
+use Rattle.rules.specs.declared.Facts.{Facts}
 use mathlib.Core.Path.{◌≡◌, refl, ◌∙◌, subst}
 use Prim.Native.Nat.{ℕ, ◌≤◌}
-use native.Mathlib.Omega.{arith}
 use mathlib.Core.Bool.{Bool, true, false, cond}
 use mathlib.Core.List.{List, ◌∷◌}
 use lib.ListN.{length, get_or}
 use Rattle.rules.specs.declared.Entry.{Entry}
 use Rattle.rules.specs.declared.Refusal.{Refusal}
-use Rattle.rules.specs.declared.Checked.{Checked}
-use Rattle.rules.specs.declared.Checked.TheVariants.{Accepted, Refused}
 use Rattle.rules.specs.Header.{header_of, header_size, current_version}
 use Rattle.rules.specs.Edition.{Edition, current}
 use Rattle.rules.specs.Checksum.{seal}
@@ -25,15 +25,15 @@ use Rattle.laws.proofs.Change.{Put, put_seal, Changed, Settled, settle}
 -- an edit that is done passed each of its own checks
 pub passed : (b : Bool) (r : Refusal) (x : Outcome) (value : ℕ) (bytes : List ℕ) → cond b (refused r) x ≡ done value bytes
     → (b ≡ false) × (x ≡ done value bytes)
-passed true r x value bytes h = absurd (let z : ◌≡◌ {A = ℕ} 0 1 = cc in omega arith)
+passed true r x value bytes h = apart cc
 passed false r x value bytes h = (refl, h)
 
 -- an edit or a conversion that is done was admitted: its list is accepted by its edition's rules and of version 1
-pub admitted_done : (ed : Edition) (a : List ℕ) (base : ℕ) (k : Checked) (x : Outcome) (value : ℕ) (bytes : List ℕ)
+pub admitted_done : (ed : Edition) (a : List ℕ) (base : ℕ) (k : Result Facts Refusal) (x : Outcome) (value : ℕ) (bytes : List ℕ)
     → checks_of ed true a base ≡ k → after_admission k x ≡ done value bytes
     → Sound ed a base × ((header_of a).version ≡ current_version) × (x ≡ done value bytes)
-admitted_done ed a base (Accepted f) x value bytes h q = let s = sound ed true a base f h in (s.0, s.1 refl, q)
-admitted_done ed a base (Refused r) x value bytes h q = absurd (let z : ◌≡◌ {A = ℕ} 0 1 = cc in omega arith)
+admitted_done ed a base (Ok f) x value bytes h q = let s = sound ed true a base f h in (s.0, s.1 refl, q)
+admitted_done ed a base (Err r) x value bytes h q = apart cc
 
 -- a list that is accepted and of version 1 is admitted to every edit
 pub admits : (a : List ℕ) (base : ℕ) → AcceptedV1 a base → (x : Outcome) → after_admission (admit a base) x ≡ x

@@ -1,10 +1,11 @@
 -- Demand 3 for void.
+use Rattle.std.specs.Prelude.{None, Option, Some}
 use mathlib.Core.Path.{◌≡◌, refl, sym, ◌∙◌, subst}
 use Prim.Native.Nat.{ℕ, ◌+◌, ◌≤◌, ◌<◌}
 use native.Mathlib.Omega.{arith}
 use mathlib.Core.List.{List, [], ◌∷◌, ◌++◌}
-use mathlib.Core.Option.{Option, none, some}
 use lib.ListN.{length, replicate}
+use Rattle.wire.proofs.Apart.{apart}
 use Rattle.wire.specs.Bytes.{splice}
 use Rattle.rules.specs.declared.Entry.{Entry}
 use Rattle.rules.specs.declared.Refusal.TheVariants.{Tag}
@@ -28,7 +29,7 @@ use Rattle.demand3.proofs.InPlace.{passed, in_place_holds}
 
 -- the entry e, which is occurrence n of the tag, is written over by a void
 voided : (a : List ℕ) (base tag n value : ℕ) (bytes : List ℕ) (xs : List Entry) (e : Entry) (ys : List Entry) → Ready a base (xs ++ (e ∷ ys))
-    → occurrence tag n (entries_of a) ≡ some e → take_out tag n (live_in a (entries_of a)) ≡ live_in a (xs ++ ys)
+    → occurrence tag n (entries_of a) ≡ Some e → take_out tag n (live_in a (entries_of a)) ≡ live_in a (xs ++ ys)
     → seal (splice a e.at (void_bytes (align8 e.data_size))) ≡ bytes → Holds (to_void tag n) a base value bytes
 unfolding reading void_bytes
 voided a base tag n value bytes xs e ys r found out is =
@@ -56,8 +57,8 @@ void_holds a base tag n value bytes accepted h =
     go (occurrence tag n (entries_of a)) refl (tag_range tag k.0).0 k.1
   where
     go : (o : Option Entry) → occurrence tag n (entries_of a) ≡ o → 0 < tag → void_at a o ≡ done value bytes → Holds (to_void tag n) a base value bytes
-    go none f s y = absurd (let z : ◌≡◌ {A = ℕ} 0 1 = cc in omega arith)
-    go (some e) f s y =
+    go None f s y = apart cc
+    go (Some e) f s y =
         let o : Occurs tag n (entries_of a) e = occurs tag n (entries_of a) e (λ z. omega arith) f in
         let b : seal (splice a e.at (void_bytes (align8 e.data_size))) ≡ bytes = cc in
         voided a base tag n value bytes o.parts.before e o.parts.behind

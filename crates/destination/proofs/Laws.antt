@@ -1,4 +1,7 @@
 -- Laws of a target: where the new base lies, the place of a list in it, and its bytes piece by piece.
+use Rattle.std.specs.Prelude.{Err, Ok, Result}
+use Rattle.wire.proofs.Apart.{apart}
+use Rattle.rules.specs.declared.Refusal.{Refusal}
 use mathlib.Core.Path.{◌≡◌, refl, sym, ap, ◌∙◌}
 use mathlib.Core.Bool.{Bool, true, false, cond}
 use Prim.Native.Nat.{ℕ, ◌+◌, ◌-◌, ◌≤◌, ◌<◌}
@@ -17,8 +20,6 @@ use Rattle.rules.specs.Refusals.{refuses_target}
 use Rattle.rules.specs.Outcome.{Outcome, refused, done}
 use Rattle.rules.specs.Relocate.{in_block, in_target}
 use Rattle.laws.proofs.Passed.{target_reach}
-use Rattle.destination.specs.declared.Place.{Place}
-use Rattle.destination.specs.declared.Place.TheVariants.{At, Refused}
 use Rattle.destination.specs.Place.{shift_by, placed}
 
 -- ---- the new base
@@ -30,13 +31,13 @@ block_near m base target h = omega (arith, mod-lt base h, div-mul-le_self target
 -- ---- the place of a list
 
 -- what a call comes to whose list has this place, by the bytes that it leaves for each shift
-abbrev pub outcome_at : (ℕ → List ℕ) → Place → Outcome
-outcome_at bytes (At by) = done by (bytes by)
-outcome_at bytes (Refused r) = refused r
+abbrev pub outcome_at : (ℕ → List ℕ) → Result ℕ Refusal → Outcome
+outcome_at bytes (Ok by) = done by (bytes by)
+outcome_at bytes (Err r) = refused r
 
 -- a call that refuses by 12, then by 14, and else leaves the bytes for its shift, comes to what the place does
 pub outcome_placed : (t r : Bool) (by : ℕ) (bytes : ℕ → List ℕ)
-    → cond t (refused Target) (cond r (refused Room) (done by (bytes by))) ≡ outcome_at bytes (cond t (Refused Target) (cond r (Refused Room) (At by)))
+    → cond t (refused Target) (cond r (refused Room) (done by (bytes by))) ≡ outcome_at bytes (cond t (Err Target) (cond r (Err Room) (Ok by)))
 outcome_placed true r by bytes = refl
 outcome_placed false true by bytes = refl
 outcome_placed false false by bytes = refl
@@ -46,16 +47,16 @@ pub record HasRoom (len used by : ℕ) : Type 0 where
   pub room : by + used ≤ len
   pub short : len ≤ max_length
 
-pub placed-room : (m base growth target len used by : ℕ) → placed m base growth target len used ≡ At by → HasRoom len used by
+pub placed-room : (m base growth target len used by : ℕ) → placed m base growth target len used ≡ Ok by → HasRoom len used by
 placed-room m base growth target len used by h = go (refuses_target target len) (ltb len (shift + used)) refl refl h
   where
     shift : ℕ
     shift = shift_by m base growth target
 
     go : (t r : Bool) → refuses_target target len ≡ t → ltb len (shift + used) ≡ r
-        → cond t (Refused Target) (cond r (Refused Room) (At shift)) ≡ At by → HasRoom len used by
-    go true r p q k = absurd (let z : ◌≡◌ {A = ℕ} 0 1 = cc in omega arith)
-    go false true p q k = absurd (let z : ◌≡◌ {A = ℕ} 0 1 = cc in omega arith)
+        → cond t (Err Target) (cond r (Err Room) (Ok shift)) ≡ Ok by → HasRoom len used by
+    go true r p q k = apart cc
+    go false true p q k = apart cc
     go false false p q k =
         let e : by ≡ shift = cc in
         record { room = rw e (ltb-false _ _ q); short = (target_reach target len p).1 }

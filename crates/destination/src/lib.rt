@@ -4,28 +4,9 @@
 ghost use Rattle.std.specs.Prelude.{◌≡◌, ◌+◌, ◌≤◌, ◌<◌, ◌^◌, length};
 ghost use Rattle.rules.specs.Refusals.{refuses_target};
 ghost use Rattle.rules.specs.Relocate.{new_base as new_base_rule, in_target};
-ghost use Rattle.destination.specs.Place.{placed, refusal_of_place};
+ghost use Rattle.destination.specs.Place.{placed};
 
 use rules::Refusal;
-
-// Where a list goes in a target: so many bytes behind the target's start, or why it does not.
-#[derive(Clone, Copy)]
-pub enum Place {
-    At(usize),
-    Refused(Refusal),
-}
-
-impl Place {
-    // Why the list does not go there.
-    pub fn refusal(self) -> Refusal
-        ensures { result ≡ refusal_of_place self }
-    {
-        match self {
-            Place::At(_) => Refusal::Area,
-            Place::Refused(r) => r,
-        }
-    }
-}
 
 // Refusal 12.
 pub(crate) fn refuses_target(base: u64, len: usize) -> bool
@@ -62,19 +43,19 @@ pub fn find_place(
     len: usize,
     used: usize,
     growth: usize,
-) -> Place
+) -> Result<usize, Refusal>
     requires { (alignment < 32) × (used < 2 ^ 33) × (growth < 2 ^ 32) }
     ensures { result ≡ placed (2 ^ alignment) base growth target_base len used }
 {
     if refuses_target(target_base, len) {
-        return Place::Refused(Refusal::Target);
+        return Err(Refusal::Target);
     }
     let from = target_base + growth as u64;
     let shift = (new_base(alignment, base, from) - from) as usize;
     if len < shift + used {
-        return Place::Refused(Refusal::Room);
+        return Err(Refusal::Room);
     }
-    Place::At(shift)
+    Ok(shift)
 }
 
 // A list from the shift on, and zero in every other byte of the target.

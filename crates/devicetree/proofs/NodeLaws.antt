@@ -1,15 +1,14 @@
 -- Laws of nodes and members: what the next token makes of them.
-use mathlib.Core.Path.{◌≡◌, sym, subst, ◌∙◌}
+use mathlib.Core.Path.{◌≡◌, sym, subst}
 use Prim.Native.Nat.{ℕ, suc, ◌≤◌, ◌<◌}
 use native.Mathlib.Omega.{arith}
-use mathlib.Core.Bool.{Bool, true, false, false≢true}
+use mathlib.Core.Bool.{Bool, true, false}
 use mathlib.Core.List.{List}
 use lib.ListN.{length}
-use Rattle.devicetree.specs.declared.bytes.Place.{Place}
-use Rattle.devicetree.specs.declared.bytes.Place.TheVariants.{At, Nowhere}
-use Rattle.devicetree.specs.declared.tokens.Next.{Next}
-use Rattle.devicetree.specs.declared.tokens.Next.TheVariants.{Is, Nothing}
-use Rattle.devicetree.specs.Structure.{Name, Property, Node, node, Members, property, subnode, close, begin_node, end_node, prop}
+use Rattle.std.proofs.Common.{Option, Some, None}
+use Rattle.devicetree.specs.declared.tokens.Kind.{Kind}
+use Rattle.devicetree.specs.declared.tokens.Kind.TheVariants.{BeginNode, EndNode, Prop}
+use Rattle.devicetree.specs.Structure.{Name, Property, Node, node, Members, property, subnode, close}
 use Rattle.devicetree.specs.Decided.{Decides, DecidesToken}
 use Rattle.devicetree.proofs.Deciding.{decided, holds, only, never, Same}
 use Rattle.devicetree.proofs.TokenLaws.{token_bounds, token_only, token_never, token_is}
@@ -28,14 +27,11 @@ module _ {s t : List ℕ} where
 
   -- ---- a node: its name, then its members
 
-  pub node-none : {h at : ℕ} → h ≡ 0 → (m : ℕ) → Node s t h at m → ⊥
-  node-none e m (node f w q) = omega arith
-
-  module _ {at : ℕ} {r : Place} (N : Decides (Name s at) r) where
-    pub node-unnamed : {h : ℕ} → r ≡ Nowhere → (m : ℕ) → Node s t h at m → ⊥
+  module _ {at : ℕ} {r : Option ℕ} (N : Decides (Name s at) r) where
+    pub node-unnamed : {h : ℕ} → r ≡ None → (m : ℕ) → Node s t h at m → ⊥
     node-unnamed q m (node {a = a} f w x) = never N q a w
 
-    pub node-named : {h d a : ℕ} → h ≡ suc d → r ≡ At a → Same (Node s t h at) (Members s t true d a)
+    pub node-named : {h d a : ℕ} → h ≡ suc d → r ≡ Some a → Same (Node s t h at) (Members s t true d a)
     node-named {h} {d} {a} e q = record { to = λ n x. go n x; from = λ n x. node e (holds N q) x }
       where
         go : (n : ℕ) → Node s t h at n → Members s t true d a n
@@ -47,18 +43,18 @@ module _ {s t : List ℕ} where
 -- ---- members
 
 -- what members up to n are whose first token is k, up to a
-pub data First (s t : List ℕ) (p : Bool) (d k a n : ℕ) : Type 0 where
-  of_property : k ≡ prop → p ≡ true → (m : ℕ) → Property s t a m → Members s t p d m n → First s t p d k a n
-  of_subnode : k ≡ begin_node → (m : ℕ) → Node s t d a m → Members s t false d m n → First s t p d k a n
-  of_close : k ≡ end_node → n ≡ a → First s t p d k a n
+pub data First (s t : List ℕ) (p : Bool) (d : ℕ) (k : Kind) (a n : ℕ) : Type 0 where
+  of_property : k ≡ Prop → p ≡ true → (m : ℕ) → Property s t a m → Members s t p d m n → First s t p d k a n
+  of_subnode : k ≡ BeginNode → (m : ℕ) → Node s t d a m → Members s t false d m n → First s t p d k a n
+  of_close : k ≡ EndNode → n ≡ a → First s t p d k a n
 
-module _ {s t : List ℕ} {at : ℕ} {r : Next} (T : DecidesToken s at r) {p : Bool} {d : ℕ} where
-  pub members_none : r ≡ Nothing → (n : ℕ) → Members s t p d at n → ⊥
+module _ {s t : List ℕ} {at : ℕ} {r : Option (Kind × ℕ)} (T : DecidesToken s at r) {p : Bool} {d : ℕ} where
+  pub members_none : r ≡ None → (n : ℕ) → Members s t p d at n → ⊥
   members_none q n (property e k v w) = token_never T q k (λ g. omega arith)
   members_none q n (subnode k v w) = token_never T q k (λ g. omega arith)
   members_none q n (close k) = token_never T q k (λ g. omega arith)
 
-  module _ {k a : ℕ} (q : r ≡ Is k a) where
+  module _ {k : Kind} {a : ℕ} (q : r ≡ Some (k, a)) where
     -- the first token is the one that was read
     pub first_of : (n : ℕ) → Members s t p d at n → First s t p d k a n
     first_of n (property {m = m} e x v w) =
@@ -67,62 +63,38 @@ module _ {s t : List ℕ} {at : ℕ} {r : Next} (T : DecidesToken s at r) {p : B
         let y = token_only T q x (λ g. omega arith) in of_subnode (sym y.0) m (subst (λ (i : ℕ). Node s t d i m) y.1 v) w
     first_of n (close x) = let y = token_only T q x (λ g. omega arith) in of_close (sym y.0) y.1
 
-    pub members_close : k ≡ end_node → Decides (Members s t p d at) (At a)
+    pub members_close : k ≡ EndNode → Decides (Members s t p d at) (Some a)
     members_close e = decided a (close (token_is T q e)) (λ m x. go (first_of m x))
       where
         go : {m : ℕ} → First s t p d k a m → m ≡ a
-        go (of_property f l m v w) = absurd (omega arith)
-        go (of_subnode f m v w) = absurd (omega arith)
+        go (of_property f l m v w) = absurd cc
+        go (of_subnode f m v w) = absurd cc
         go (of_close f l) = l
 
-    pub members_other : (k ≡ end_node → ⊥) → (k ≡ begin_node → ⊥) → (k ≡ prop → ⊥) → (n : ℕ) → Members s t p d at n → ⊥
-    members_other f g h n x = go (first_of n x)
-      where
-        go : First s t p d k a n → ⊥
-        go (of_property e l m v w) = h e
-        go (of_subnode e m v w) = g e
-        go (of_close e l) = f e
-
-    pub members_late : k ≡ prop → p ≡ false → (n : ℕ) → Members s t p d at n → ⊥
-    members_late e f n x = go (first_of n x)
-      where
-        go : First s t p d k a n → ⊥
-        go (of_property g l m v w) = false≢true (sym f ∙ l)
-        go (of_subnode g m v w) = omega arith
-        go (of_close g l) = omega arith
-
     -- a subnode, and what is left behind it
-    module _ (e : k ≡ begin_node) {o : Place} (N : Decides (Node s t d a) o) where
-      pub members_no-node : o ≡ Nowhere → (n : ℕ) → Members s t p d at n → ⊥
-      members_no-node h n x = go (first_of n x)
-        where
-          go : First s t p d k a n → ⊥
-          go (of_property f l m v w) = omega arith
-          go (of_subnode f m v w) = never N h m v
-          go (of_close f l) = omega arith
-
-      pub members_node : {m : ℕ} → o ≡ At m → Same (Members s t p d at) (Members s t false d m)
+    module _ (e : k ≡ BeginNode) {o : Option ℕ} (N : Decides (Node s t d a) o) where
+      pub members_node : {m : ℕ} → o ≡ Some m → Same (Members s t p d at) (Members s t false d m)
       members_node {m} h = record { to = λ n x. go (first_of n x); from = λ n x. subnode (token_is T q e) (holds N h) x }
         where
           go : {n : ℕ} → First s t p d k a n → Members s t false d m n
-          go (of_property f l m' v w) = absurd (omega arith)
+          go (of_property f l m' v w) = absurd cc
           go {n} (of_subnode f m' v w) = subst (λ (i : ℕ). Members s t false d i n) (only N h m' v) w
-          go (of_close f l) = absurd (omega arith)
+          go (of_close f l) = absurd cc
 
     -- a property, and what is left behind it
-    module _ (e : k ≡ prop) {o : Place} (U : Decides (Property s t a) o) where
-      pub members_no-property : o ≡ Nowhere → (n : ℕ) → Members s t p d at n → ⊥
+    module _ (e : k ≡ Prop) {o : Option ℕ} (U : Decides (Property s t a) o) where
+      pub members_no-property : o ≡ None → (n : ℕ) → Members s t p d at n → ⊥
       members_no-property h n x = go (first_of n x)
         where
           go : First s t p d k a n → ⊥
           go (of_property f l m v w) = never U h m v
-          go (of_subnode f m v w) = omega arith
-          go (of_close f l) = omega arith
+          go (of_subnode f m v w) = cc
+          go (of_close f l) = cc
 
-      pub members_property : {m : ℕ} → p ≡ true → o ≡ At m → Same (Members s t p d at) (Members s t p d m)
+      pub members_property : {m : ℕ} → p ≡ true → o ≡ Some m → Same (Members s t p d at) (Members s t p d m)
       members_property {m} l h = record { to = λ n x. go (first_of n x); from = λ n x. property l (token_is T q e) (holds U h) x }
         where
           go : {n : ℕ} → First s t p d k a n → Members s t p d m n
           go {n} (of_property f l m' v w) = subst (λ (i : ℕ). Members s t p d i n) (only U h m' v) w
-          go (of_subnode f m' v w) = absurd (omega arith)
-          go (of_close f l) = absurd (omega arith)
+          go (of_subnode f m' v w) = absurd cc
+          go (of_close f l) = absurd cc

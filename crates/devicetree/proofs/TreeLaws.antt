@@ -1,26 +1,28 @@
 -- Laws of the whole: the reservation block, the structure, the blocks by the header.
-use mathlib.Core.Path.{◌≡◌, refl, sym, subst, ◌∙◌}
-use Prim.Native.Nat.{ℕ, ◌+◌, ◌≤◌, ◌<◌}
+use mathlib.Core.Path.{◌≡◌, refl, sym, ap, subst, ◌∙◌}
+use Prim.Native.Nat.{ℕ, ◌+◌, ◌-◌, ◌≤◌, ◌<◌}
 use native.Mathlib.Omega.{arith}
+use mathlib.Core.Logic.{◌⊎◌, ⊎_elim}
 use mathlib.Core.Bool.{Bool, true, false, ◌&&◌, false≢true}
-use mathlib.Core.List.{List}
-use lib.ListN.{length, get_or}
+use mathlib.Core.List.{List, ◌++◌}
+use lib.ListN.{length, get_or, drop}
 use lib.Seq.{length-take-le}
+use Rattle.std.specs.List.{slice_range}
+use Rattle.std.proofs.lemmas.List.{length-drop}
 use lib.Dec.{leb, eqb}
 use borrow.Author.Tests.{leb-true, eqb-true, eq-eqb}
 use Rattle.devicetree.specs.declared.header.Header.{Header}
-use Rattle.devicetree.specs.declared.bytes.Place.{Place}
-use Rattle.devicetree.specs.declared.bytes.Place.TheVariants.{At, Nowhere}
-use Rattle.devicetree.specs.declared.tokens.Next.{Next}
-use Rattle.devicetree.specs.declared.tokens.Next.TheVariants.{Is, Nothing}
+use Rattle.std.proofs.Common.{Option, Some, None}
+use Rattle.devicetree.specs.declared.tokens.Kind.{Kind}
+use Rattle.devicetree.specs.declared.tokens.Kind.TheVariants.{BeginNode, End}
 use Rattle.devicetree.specs.Header.{header_of, Zeros, pair_size, Reservation, last, pair, header_size, identified, ordered, headed}
-use Rattle.devicetree.specs.Structure.{Token, Node, begin_node, end}
+use Rattle.devicetree.specs.Structure.{Token, Node, end}
 use Rattle.devicetree.specs.Tree.{Root, Structure, deepest, structure_of, strings_of, Blocks, Tree, Checked, accepted, refused}
 use Rattle.devicetree.specs.Decided.{Answers, Decides, DecidesToken}
-use Rattle.devicetree.proofs.Deciding.{holds, only, never, Same, answers_test, answers_same, both}
-use Rattle.devicetree.proofs.TokenLaws.{token_bounds, token_only, token_never, token_is}
+use Rattle.devicetree.proofs.Deciding.{holds, only, never, Same, said_yes, said_no, answers_test, answers_same, both}
+use Rattle.devicetree.proofs.CutLaws.{Chunk, next_chunk, part_zeros}
+use Rattle.devicetree.proofs.TokenLaws.{token_only, token_never, token_is}
 use Rattle.devicetree.proofs.PartLaws.{ends-here}
-use Rattle.devicetree.proofs.NodeLaws.{node-bounds}
 
 -- ---- the reservation block
 
@@ -32,6 +34,48 @@ module _ {d : List ℕ} {end : ℕ} where
   pub reservation-behind : {at : ℕ} → (Zeros d at (at + pair_size) → ⊥) → Reservation d end at → Reservation d end (at + pair_size)
   reservation-behind f (last h z) = absurd (f z)
   reservation-behind f (pair g r) = r
+
+-- none where the block can't be lent
+pub reservation_nowhere : {d : List ℕ} {end at : ℕ} → (end < at) ⊎ (length d < end) → end ≤ length d → Reservation d end at → ⊥
+reservation_nowhere h l r = let x = reservation-long r in ⊎_elim (λ i. omega arith) (λ i. omega arith) h
+
+-- left are the pairs from some place on, and the block ends from there on exactly where it does from the start
+pub record Pairs (d : List ℕ) (end at : ℕ) (left : List ℕ) : Type 0 where
+  pub p : ℕ
+  pub within : p ≤ end
+  pub are : left ≡ slice_range d p end
+  pub to : Reservation d end at → Reservation d end p
+  pub from : Reservation d end p → Reservation d end at
+
+module _ {d : List ℕ} {end at : ℕ} where
+  pub pairs_start : {left : List ℕ} → at ≤ end → left ≡ slice_range d at end → Pairs d end at left
+  pairs_start h e = record { p = at; within = h; are = e; to = λ r. r; from = λ r. r }
+
+  module _ (l : end ≤ length d) {left : List ℕ} (P : Pairs d end at left) (x rest : List ℕ) (f : left ≡ x ++ rest) (n : length x ≡ pair_size) where
+    pair_next : Chunk d P.p end pair_size x rest
+    pair_next = next_chunk d P.p end pair_size l P.within P.are f n
+
+    pair_zeros : (Zeros x 0 (length x) → Zeros d P.p (P.p + pair_size)) × (Zeros d P.p (P.p + pair_size) → Zeros x 0 (length x))
+    pair_zeros = part_zeros d P.p (P.p + pair_size) x (λ i j h. pair_next.reads i j (omega arith)) (omega arith)
+
+    pub pairs_end : {r : Bool} → Answers (Zeros x 0 (length x)) r → r ≡ true → Reservation d end at
+    pairs_end a e = P.from (last pair_next.inside (pair_zeros.0 (said_yes a e)))
+
+    pub pairs_more : {r : Bool} → Answers (Zeros x 0 (length x)) r → r ≡ false → Pairs d end at rest
+    pairs_more a e =
+        let g : Zeros d P.p (P.p + pair_size) → ⊥ = λ z. said_no a e (pair_zeros.1 z) in
+        record {
+          p = P.p + pair_size;
+          within = pair_next.inside;
+          are = pair_next.left;
+          to = λ r. reservation-behind g (P.to r);
+          from = λ r. P.from (pair g r);
+        }
+
+  pub pairs_over : {left : List ℕ} → end ≤ length d → Pairs d end at left → length left < pair_size → Reservation d end at → ⊥
+  pairs_over l P h r =
+      let x = reservation-long (P.to r) in
+      omega (arith, simp (length-take-le (end - P.p) (drop P.p d) (simp length-drop (omega arith))) at (ap length P.are))
 
 -- ---- the order of the blocks, in numbers
 
@@ -62,27 +106,12 @@ structure-length d h e =
 
 -- ---- the root
 
-pub root-bounds : {s t : List ℕ} {at n : ℕ} → Root s t at n → (at < n) × (n ≤ length s)
-root-bounds x = let t = token_bounds x.begins in let y = node-bounds x.node in (omega arith, y.1)
-
-module _ {s t : List ℕ} {at : ℕ} {r : Next} (T : DecidesToken s at r) where
-  pub root_none : r ≡ Nothing → (n : ℕ) → Root s t at n → ⊥
-  root_none e n x = token_never T e x.begins (λ f. omega arith)
-
-  module _ {k a : ℕ} (q : r ≡ Is k a) where
-    begins_at : {n : ℕ} (x : Root s t at n) → (begin_node ≡ k) × (x.a ≡ a)
+module _ {s t : List ℕ} {at : ℕ} {r : Option (Kind × ℕ)} (T : DecidesToken s at r) where
+  module _ {k : Kind} {a : ℕ} (q : r ≡ Some (k, a)) where
+    begins_at : {n : ℕ} (x : Root s t at n) → (BeginNode ≡ k) × (x.a ≡ a)
     begins_at x = token_only T q x.begins (λ f. omega arith)
 
-    pub root-other : (k ≡ begin_node → ⊥) → (n : ℕ) → Root s t at n → ⊥
-    root-other f n x = f (sym (begins_at x).0)
-
-    pub root_full : a ≡ length s → (n : ℕ) → Root s t at n → ⊥
-    root_full e n x = let y = node-bounds x.node in let z = begins_at x in omega arith
-
-    pub root-named : (get_or s a 0 ≡ 0 → ⊥) → (n : ℕ) → Root s t at n → ⊥
-    root-named f n x = f (subst (λ (i : ℕ). get_or s i 0 ≡ 0) (begins_at x).1 x.unnamed.zero)
-
-    pub root-node : k ≡ begin_node → a < length s → get_or s a 0 ≡ 0 → Same (Root s t at) (Node s t deepest a)
+    pub root-node : k ≡ BeginNode → a < length s → get_or s a 0 ≡ 0 → Same (Root s t at) (Node s t deepest a)
     root-node e i z =
         record {
           to = λ n x. subst (λ (i : ℕ). Node s t deepest i n) (begins_at x).1 x.node;
@@ -91,30 +120,29 @@ module _ {s t : List ℕ} {at : ℕ} {r : Next} (T : DecidesToken s at r) where
 
 -- ---- the structure
 
-module _ {s t : List ℕ} {at : ℕ} {o : Place} (R : Decides (Root s t at) o) where
-  pub structure-none : o ≡ Nowhere → Structure s t at → ⊥
+module _ {s t : List ℕ} {at : ℕ} {o : Option ℕ} (R : Decides (Root s t at) o) where
+  pub structure-none : o ≡ None → Structure s t at → ⊥
   structure-none e x = never R e x.n x.root
 
-  module _ {n : ℕ} (h : o ≡ At n) {r : Next} (E : DecidesToken s n r) where
+  module _ {n : ℕ} (h : o ≡ Some n) {r : Option (Kind × ℕ)} (E : DecidesToken s n r) where
     ends_of : (x : Structure s t at) → Token s end n (length s)
     ends_of x = subst (λ (i : ℕ). Token s end i (length s)) (only R h x.n x.root) x.ends
 
-    pub structure_open : r ≡ Nothing → Structure s t at → ⊥
+    pub structure_open : r ≡ None → Structure s t at → ⊥
     structure_open e x = token_never E e (ends_of x) (λ f. omega arith)
 
-    pub structure-ends : {k e : ℕ} → r ≡ Is k e → Answers (Structure s t at) (eqb k end && eqb e (length s))
-    structure-ends {k} {e} q = answers_test (eqb k end && eqb e (length s)) there back
-      where
-        there : (eqb k end && eqb e (length s)) ≡ true → Structure s t at
-        there y =
-            let d = both (eqb k end) (eqb e (length s)) y in
-            let stands = token_is E q (eqb-true k end d.0) in
-            record { n = n; root = holds R h; ends = subst (λ (i : ℕ). Token s end n i) (eqb-true e (length s) d.1) stands }
+    module _ {k : Kind} {e : ℕ} (q : r ≡ Some (k, e)) where
+      pub structure_other : (k ≡ End → ⊥) → Structure s t at → ⊥
+      structure_other f x = f (sym (token_only E q (ends_of x) (λ f. omega arith)).0)
 
-        back : Structure s t at → (eqb k end && eqb e (length s)) ≡ true
-        back x =
-            let d = token_only E q (ends_of x) (λ f. omega arith) in
-            simp (eq-eqb k end (sym d.0), eq-eqb e (length s) (sym d.1))
+      pub structure-ends : k ≡ End → Answers (Structure s t at) (eqb e (length s))
+      structure-ends f = answers_test (eqb e (length s)) there back
+        where
+          there : eqb e (length s) ≡ true → Structure s t at
+          there y = record { n = n; root = holds R h; ends = subst (λ (i : ℕ). Token s end n i) (eqb-true e (length s) y) (token_is E q f) }
+
+          back : Structure s t at → eqb e (length s) ≡ true
+          back x = eq-eqb e (length s) (sym (token_only E q (ends_of x) (λ f. omega arith)).1)
 
 -- ---- the blocks by the header
 

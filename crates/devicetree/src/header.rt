@@ -12,6 +12,7 @@ ghost use Rattle.devicetree.specs.Header.{
 ghost use Rattle.devicetree.specs.Tree.{structure_of, strings_of};
 ghost use Rattle.devicetree.specs.Decided.{Answers};
 
+use crate::blocks::Blocks;
 use crate::bytes;
 
 // The header's fields that are judged.
@@ -93,24 +94,19 @@ impl Header {
         self.identified() & self.ordered(len) & self.aligned()
     }
 
-    // The data up to the structure block's end.
-    pub fn structure(self, d: &[u8]) -> &[u8]
+    // The data up to the structure block's end, and the strings block.
+    pub fn blocks(self, d: &[u8]) -> Blocks<'_>
         requires { headed_rule self (length d.now) ≡ true }
-        ensures { result.now ≡ structure_of d.now self }
+        ensures structure { result.structure.now ≡ structure_of d.now self }
+        ensures strings { result.strings.now ≡ strings_of d.now self }
     {
-        let at = self.off_dt_struct as usize;
-        let end = at + self.size_dt_struct as usize;
-        &d[..end]
-    }
-
-    // The strings block.
-    pub fn strings(self, d: &[u8]) -> &[u8]
-        requires { headed_rule self (length d.now) ≡ true }
-        ensures { result.now ≡ strings_of d.now self }
-    {
+        let end = self.off_dt_struct as usize + self.size_dt_struct as usize;
         let from = self.off_dt_strings as usize;
         let to = from + self.size_dt_strings as usize;
-        &d[from..to]
+        Blocks {
+            structure: &d[..end],
+            strings: &d[from..to],
+        }
     }
 }
 
@@ -122,15 +118,13 @@ pub(crate) fn reservation(d: &[u8], at: usize, end: usize) -> bool
     requires { end ≤ length d.now }
     ensures { Answers (Reservation d.now end at) result }
 {
-    let mut p = at;
-    while p <= end {
-        if end - p < PAIR_SIZE {
-            return false;
-        }
-        if bytes::zeros(d, p, p + PAIR_SIZE) {
+    let Some(pairs) = d.get(at..end) else {
+        return false;
+    };
+    for pair in pairs.chunks_exact(PAIR_SIZE) {
+        if bytes::zeros(pair, 0, pair.len()) {
             return true;
         }
-        p += PAIR_SIZE;
     }
     false
 }

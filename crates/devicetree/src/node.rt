@@ -1,22 +1,18 @@
 // A node of the tree.
-ghost use Rattle.std.specs.Prelude.{◌≡◌, ◌≤◌, length};
 ghost use Rattle.devicetree.specs.Structure.{Node};
 ghost use Rattle.devicetree.specs.Decided.{Decides};
 
-use crate::bytes::Place;
-use crate::{members, parts};
+use crate::blocks::Blocks;
+use crate::parts;
 
-// What follows a node's token, with at most depth nodes inside each other.
-#[cycle(members_node)]
-pub(crate) fn node(s: &[u8], t: &[u8], at: usize, depth: usize) -> Place
-    requires { at ≤ length s.now }
-    ensures { Decides (Node s.now t.now depth at) result }
-{
-    if depth == 0 {
-        return Place::Nowhere;
+impl Blocks<'_> {
+    // What follows a node's token, with at most depth nodes inside each other.
+    #[cycle(members_node)]
+    pub(crate) fn node(&self, at: usize, depth: usize) -> Option<usize>
+        ensures { Decides (Node self.now.structure.now self.now.strings.now depth at) result }
+    {
+        let inner = depth.checked_sub(1)?;
+        let a = parts::name(self.structure, at)?;
+        self.members(a, inner)
     }
-    let Place::At(a) = parts::name(s, at) else {
-        return Place::Nowhere;
-    };
-    members::members(s, t, a, depth - 1)
 }

@@ -1,12 +1,11 @@
 // The whole of the data.
-ghost use Rattle.std.specs.Prelude.{◌≡◌, ◌≤◌, length};
-ghost use Rattle.devicetree.specs.Tree.{Root, Structure, Blocks, Tree, Checked};
+ghost use Rattle.devicetree.specs.Tree.{Root, Structure, Blocks as BlocksRule, Tree, Checked};
 ghost use Rattle.devicetree.specs.Decided.{Answers, Decides};
 
-use crate::bytes::Place;
+use crate::blocks::Blocks;
 use crate::header::Header;
-use crate::tokens::Next;
-use crate::{header, node, tokens};
+use crate::tokens::Kind;
+use crate::{header, tokens};
 
 // The refusal's number.
 pub const FDT: u32 = 21;
@@ -14,53 +13,44 @@ pub const FDT: u32 = 21;
 // The number of nodes inside each other, the root counted.
 pub const DEEPEST: usize = 16;
 
-// One root, its name empty.
-fn root(s: &[u8], t: &[u8], at: usize) -> Place
-    requires { at ≤ length s.now }
-    ensures { Decides (Root s.now t.now at) result }
-{
-    let Next::Is(kind, a) = tokens::next_token(s, at) else {
-        return Place::Nowhere;
-    };
-    if kind != tokens::BEGIN_NODE {
-        return Place::Nowhere;
+impl Blocks<'_> {
+    // One root, its name empty.
+    fn root(&self, at: usize) -> Option<usize>
+        ensures { Decides (Root self.now.structure.now self.now.strings.now at) result }
+    {
+        let (Kind::BeginNode, a) = tokens::next_token(self.structure, at)? else {
+            return None;
+        };
+        if *self.structure.get(a)? != 0 {
+            return None;
+        }
+        self.node(a, DEEPEST)
     }
-    if a == s.len() {
-        return Place::Nowhere;
-    }
-    if s[a] != 0 {
-        return Place::Nowhere;
-    }
-    node::node(s, t, a, DEEPEST)
-}
 
-// The root, then END, which ends where s does.
-fn structure(s: &[u8], t: &[u8], at: usize) -> bool
-    requires { at ≤ length s.now }
-    ensures { Answers (Structure s.now t.now at) result }
-{
-    let Place::At(n) = root(s, t, at) else {
-        return false;
-    };
-    let Next::Is(kind, e) = tokens::next_token(s, n) else {
-        return false;
-    };
-    (kind == tokens::END) & (e == s.len())
+    // The root, then END, which ends where the structure block does.
+    fn tree(&self, at: usize) -> bool
+        ensures { Answers (Structure self.now.structure.now self.now.strings.now at) result }
+    {
+        let Some(n) = self.root(at) else {
+            return false;
+        };
+        let Some((kind, e)) = tokens::next_token(self.structure, n) else {
+            return false;
+        };
+        kind == Kind::End && e == self.structure.len()
+    }
 }
 
 // What the header h of d has to keep, and the blocks that it places.
 fn blocks(d: &[u8], h: Header) -> bool
-    ensures { Answers (Blocks d.now h) result }
+    ensures { Answers (BlocksRule d.now h) result }
 {
     if !h.headed(d.len()) {
         return false;
     }
     let at = h.off_dt_struct as usize;
     let reserved = h.off_mem_rsvmap as usize;
-    if !header::reservation(d, reserved, at) {
-        return false;
-    }
-    structure(h.structure(d), h.strings(d), at)
+    header::reservation(d, reserved, at) && h.blocks(d).tree(at)
 }
 
 // Whether the data is a tree by the grammar.
@@ -73,12 +63,9 @@ pub fn tree(d: &[u8]) -> bool
     blocks(d, Header::read(d))
 }
 
-// 0 where the data is a tree by the grammar, else refusal 21.
+// 0 where the data is a tree by the grammar, else refusal 21: the number that C gets.
 pub fn check(d: &[u8]) -> u32
     ensures { Checked d.now result }
 {
-    if tree(d) {
-        return 0;
-    }
-    FDT
+    if tree(d) { 0 } else { FDT }
 }

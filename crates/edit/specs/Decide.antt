@@ -1,20 +1,20 @@
 -- The plans of the edits, and what both adds come to.
-use Rattle.std.specs.Prelude.{ℕ, ◌+◌, ◌-◌, ◌%◌, ◌^◌, max, Bool, cond, List, [], ◌++◌, length, ltb, eqb}
-use Rattle.std.proofs.Math.Option.{Option, none, some}
+use Rattle.rules.specs.declared.Refusal.{Refusal}
+use Rattle.std.specs.Prelude.{Err, None, Ok, Option, Result, Some, ℕ, ◌+◌, ◌-◌, ◌%◌, ◌^◌, max, Bool, cond, List, [], ◌++◌, length, ltb, eqb}
 use Rattle.rules.specs.declared.Header.{Header}
 use Rattle.rules.specs.declared.Entry.{Entry}
-use Rattle.rules.specs.declared.Refusal.TheVariants.{Room}
+use Rattle.rules.specs.declared.Refusal.TheVariants.{Tag, Shape, Room}
 use Rattle.rules.specs.Area.{align8}
 use Rattle.rules.specs.Header.{header_of}
 use Rattle.rules.specs.Entries.{entries_of, occurrence}
 use Rattle.rules.specs.Checksum.{seal}
+use Rattle.rules.specs.Refusals.{refuses_tag_add}
+use Rattle.rules.specs.Tags.{refuses_shape}
 use Rattle.rules.specs.Outcome.{Outcome, refused, done}
 use Rattle.rules.specs.Add.{entry_bytes, room, remainder, taken_void, add_at}
 use Rattle.rules.specs.Edit.{Edit, to_add, to_add_aligned, to_void, to_relocate, to_tidy, run}
 use Rattle.laws.proofs.Patch.{edited}
 use Rattle.plan.specs.declared.Plan.{Plan}
-use Rattle.plan.specs.declared.Planned.{Planned}
-use Rattle.plan.specs.declared.Planned.TheVariants.{Go, Refused}
 use Rattle.plan.specs.Plan.{whole_void, with_checksum}
 
 -- the entry in the place of a void; what is left of the void follows as a void of its own
@@ -70,6 +70,10 @@ unfoldable pub padding_for : ℕ → ℕ → ℕ → ℕ
 padding_for base used exponent =
     cond (eqb ((base + used + 8) % 2 ^ exponent) 0) 0 (2 ^ exponent - (base + used + 8) % 2 ^ exponent)
 
+-- checks 9 and 10, of an add of n bytes of data
+abbrev pub judged_add : ℕ → ℕ → Result Unit Refusal
+judged_add tag n = cond (refuses_tag_add tag) (Err Tag) (cond (refuses_shape tag n) (Err Shape) (Ok tt))
+
 -- an entry at used_size behind a padding void, with a new alignment: what both adds come to there
 unfoldable pub end_outcome : List ℕ → ℕ → ℕ → ℕ → List ℕ → Outcome
 end_outcome a padding alignment tag content =
@@ -87,8 +91,8 @@ add_place a tag content use_voids = add_at a tag content (taken_void use_voids (
 
 -- of an add: in the void that it takes, else at used_size
 abbrev pub add_plan : List ℕ → ℕ → ℕ → Option Entry → Plan
-add_plan a tag n (some e) = plan_in_void (header_of a) e tag n
-add_plan a tag n none = plan_at_end (header_of a) 0 (header_of a).alignment tag n
+add_plan a tag n (Some e) = plan_in_void (header_of a) e tag n
+add_plan a tag n None = plan_at_end (header_of a) 0 (header_of a).alignment tag n
 
 -- of an aligned add
 abbrev pub add_aligned_plan : List ℕ → ℕ → ℕ → ℕ → ℕ → Plan
@@ -97,20 +101,20 @@ add_aligned_plan a base tag n exponent =
 
 -- of a void: in the place of the entry
 abbrev pub void_plan : List ℕ → Option Entry → Plan
-void_plan a (some e) = plan_void (header_of a) e
-void_plan a none = plan_at_end (header_of a) 0 0 0 0
+void_plan a (Some e) = plan_void (header_of a) e
+void_plan a None = plan_at_end (header_of a) 0 0 0 0
 
 -- what an edit that comes to o has decided, with its plan
-abbrev pub planned_by : List ℕ → List ℕ → Outcome → Plan → Planned
-planned_by a content (refused r) p = Refused r
-planned_by a content (done value bytes) p = Go (with_checksum a content p)
+abbrev pub planned_by : List ℕ → List ℕ → Outcome → Plan → Result Plan Refusal
+planned_by a content (refused r) p = Err r
+planned_by a content (done value bytes) p = Ok (with_checksum a content p)
 
 -- what both adds have decided at used_size, and an add at its place
-abbrev pub planned_at_end : Header → List ℕ → ℕ → ℕ → ℕ → List ℕ → Planned
+abbrev pub planned_at_end : Header → List ℕ → ℕ → ℕ → ℕ → List ℕ → Result Plan Refusal
 planned_at_end h a padding alignment tag content =
     planned_by a content (end_outcome a padding alignment tag content) (plan_at_end h padding alignment tag (length content))
 
-abbrev pub planned_place : List ℕ → ℕ → List ℕ → Bool → Planned
+abbrev pub planned_place : List ℕ → ℕ → List ℕ → Bool → Result Plan Refusal
 planned_place a tag content use_voids =
     planned_by a content (add_place a tag content use_voids) (add_plan a tag (length content) (taken_void use_voids (length content) a))
 
@@ -129,13 +133,13 @@ abbrev pub bare_for : Edit → List ℕ → ℕ → Plan
 bare_for (to_add tag content use_voids) a base = add_plan a tag (length content) (taken_void use_voids (length content) a)
 bare_for (to_add_aligned tag content exponent) a base = add_aligned_plan a base tag (length content) exponent
 bare_for (to_void tag n) a base = void_plan a (occurrence tag n (entries_of a))
-bare_for (to_relocate target target_base) a base = void_plan a none
-bare_for to_tidy a base = void_plan a none
+bare_for (to_relocate target target_base) a base = void_plan a None
+bare_for to_tidy a base = void_plan a None
 
 -- and with it
 abbrev pub plan_for : Edit → List ℕ → ℕ → Plan
 plan_for e a base = with_checksum a (content_of e) (bare_for e a base)
 
 -- and what it has decided
-abbrev pub planned_for : Edit → List ℕ → ℕ → Planned
+abbrev pub planned_for : Edit → List ℕ → ℕ → Result Plan Refusal
 planned_for e a base = planned_by a (content_of e) (run e a base) (bare_for e a base)

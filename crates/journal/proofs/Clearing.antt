@@ -11,6 +11,7 @@ use lib.ListN.{get_or, set}
 use lib.Seq.{get_or-set_other}
 use lib.Dec.{leb}
 use borrow.Author.Tests.{le-leb, leb-true}
+use Rattle.wire.proofs.Apart.{apart}
 use Rattle.journal.specs.Journal.{Store, in_journal, in_area, Memory, store, store_all, kind, clear_stores, kinds_up_to}
 use Rattle.journal.proofs.Stores.{All, IsJournal}
 
@@ -20,7 +21,7 @@ and_left false b h = h
 
 pub and_right : (a b : Bool) → a && b ≡ true → b ≡ true
 and_right true b h = h
-and_right false b h = absurd (let z : ◌≡◌ {A = ℕ} 0 1 = cc in omega arith)
+and_right false b h = apart cc
 
 -- the kinds of the first n records are at most c
 abbrev pub Low : ℕ → ℕ → List ℕ → Type 0

@@ -2,7 +2,7 @@
 use mathlib.Core.Path.{◌≡◌, refl}
 use Prim.Native.Nat.{ℕ}
 use mathlib.Core.Bool.{true, false}
-use mathlib.Core.Option.{Option, none, some}
+use Rattle.std.specs.Prelude.{Option, None, Some}
 use mathlib.Core.List.{List, [], ◌∷◌, ◌++◌}
 use lib.ListN.{drop, replicate}
 use Rattle.wire.specs.Bytes.{field, le_bytes}
@@ -83,17 +83,17 @@ pub record JournalExamples : Type 0 where
   pub short : refuses_journal (replicate 31 0) old new ≡ true
   pub kind : refuses_journal (replicate 32 0 ++ row 1 0 zeros) old new ≡ true
   -- recovery: a word and a commit; the word alone; the commit first; nothing
-  pub committed : recovers (journal_of (row 1 8 eight) (row 2 0 zeros)) ≡ some (drop 32 stores)
-  pub uncommitted : recovers (journal_of (row 1 8 eight) (row 0 0 zeros)) ≡ some cleared
-  pub behind : recovers (journal_of (row 2 0 zeros) (row 1 8 eight)) ≡ some cleared
-  pub nothing : recovers empty ≡ some cleared
+  pub committed : recovers (journal_of (row 1 8 eight) (row 2 0 zeros)) ≡ Some (drop 32 stores)
+  pub uncommitted : recovers (journal_of (row 1 8 eight) (row 0 0 zeros)) ≡ Some cleared
+  pub behind : recovers (journal_of (row 2 0 zeros) (row 1 8 eight)) ≡ Some cleared
+  pub nothing : recovers empty ≡ Some cleared
   -- 17: a kind of 3, behind the commit too; an offset of 4; one of 16, since 24 exceeds 20; not if the word would not be applied
-  pub three : recovers (journal_of (row 2 0 zeros) (row 3 0 zeros)) ≡ none
-  pub odd : recovers (journal_of (row 1 4 eight) (row 2 0 zeros)) ≡ none
-  pub far : recovers (journal_of (row 1 16 eight) (row 2 0 zeros)) ≡ none
-  pub unread : recovers (journal_of (row 1 16 eight) (row 0 0 zeros)) ≡ some cleared
+  pub three : recovers (journal_of (row 2 0 zeros) (row 3 0 zeros)) ≡ None
+  pub odd : recovers (journal_of (row 1 4 eight) (row 2 0 zeros)) ≡ None
+  pub far : recovers (journal_of (row 1 16 eight) (row 2 0 zeros)) ≡ None
+  pub unread : recovers (journal_of (row 1 16 eight) (row 0 0 zeros)) ≡ Some cleared
   -- a word that ends where the area ends
-  pub last : recovery (memory (journal_of (row 1 0 eight) (row 2 0 zeros)) (replicate 8 255)) ≡ some (applied ++ cleared)
+  pub last : recovery (memory (journal_of (row 1 0 eight) (row 2 0 zeros)) (replicate 8 255)) ≡ Some (applied ++ cleared)
 
 pub journal_examples : JournalExamples
 unfolding field le_bytes words_from changed_words edit_stores refuses_journal recovery

@@ -11,6 +11,7 @@ use lib.ListN.{length, take}
 use lib.Seq.{ext_get_or, take_all}
 use lib.Dec.{ltb, leb}
 use borrow.Author.Tests.{lt-ltb, le-ltb, leb-false}
+use Rattle.wire.proofs.Apart.{apart}
 use Rattle.journal.specs.Journal.{
   Store,
   Memory,
@@ -65,7 +66,7 @@ has_room j old new e = leb-false (records j) (length (changed_words old new)) (g
   where
     go : (b : Bool) → (not b || leb (records j) (length (changed_words old new))) ≡ false → leb (records j) (length (changed_words old new)) ≡ false
     go true e = e
-    go false e = absurd (let z : ◌≡◌ {A = ℕ} 0 1 = cc in omega arith)
+    go false e = apart cc
 
 -- and an empty journal
 pub is-empty : (j old new : List ℕ) → refuses_journal j old new ≡ false → kinds_up_to 0 (records j) j 0 ≡ true
@@ -74,7 +75,7 @@ is-empty j old new e = go (kinds_up_to 0 (records j) j 0) e
   where
     go : (b : Bool) → (not b || leb (records j) (length (changed_words old new))) ≡ false → b ≡ true
     go true e = refl
-    go false e = absurd (let z : ◌≡◌ {A = ℕ} 0 1 = cc in omega arith)
+    go false e = apart cc
 
 pub changed_fine : (old new : List ℕ) → AllFine (length old) (changed_words old new)
 unfolding changed_words

@@ -4,7 +4,7 @@ use Prim.Native.Nat.{ℕ, zero, suc, ◌+◌, ◌*◌, ◌≤◌, ◌<◌}
 use native.Mathlib.Omega.{arith}
 use mathlib.Core.Logic.{◌⊎◌, inl, inr}
 use mathlib.Core.Bool.{true}
-use mathlib.Core.Option.{none, some}
+use Rattle.std.specs.Prelude.{None, Some}
 use mathlib.Core.List.{List, [], ◌∷◌, ◌++◌, append-nil}
 use lib.ListN.{length, take}
 use lib.Seq.{take_all}
@@ -51,18 +51,18 @@ use Rattle.journal.proofs.Clearing.{Low, low_test, Zeroing, clear_zeroing, clear
 
 -- ---- the words that a recovery finds
 
-by_low : (k : ℕ) → k ≤ 1 → by_kind k none ≡ none
+by_low : (k : ℕ) → k ≤ 1 → by_kind k None ≡ None
 by_low zero h = refl
 by_low (suc zero) h = refl
 by_low (suc (suc k)) h = absurd (omega arith)
 
 -- no commit: none
-no_commit : (n : ℕ) (j : List ℕ) (i : ℕ) → Low (i + n) 1 j → pending n j i ≡ none
+no_commit : (n : ℕ) (j : List ℕ) (i : ℕ) → Low (i + n) 1 j → pending n j i ≡ None
 no_commit zero j i h = refl
 no_commit (suc n) j i h = rw (no_commit n j (i + 1) (λ k g. h k (omega arith))) (by_low (kind j i) (h i (omega arith)))
 
 -- the first record empty: none
-empty-first : (n : ℕ) (j : List ℕ) → kind j 0 ≤ 0 → pending n j 0 ≡ none
+empty-first : (n : ℕ) (j : List ℕ) → kind j 0 ≤ 0 → pending n j 0 ≡ None
 empty-first zero j h = refl
 empty-first (suc n) j h = let e : kind j 0 ≡ 0 = omega arith in rw e
 
@@ -71,7 +71,7 @@ abbrev pub Committed : List ℕ → ℕ → List Word → Type 0
 Committed j i [] = kind j i ≡ 2
 Committed j i (w ∷ ws) = (kind j i ≡ 1) × (word_at j i ≡ w) × Committed j (i + 1) ws
 
-pub pending-words : (ws : List Word) (n : ℕ) (j : List ℕ) (i : ℕ) → Committed j i ws → length ws < n → pending n j i ≡ some ws
+pub pending-words : (ws : List Word) (n : ℕ) (j : List ℕ) (i : ℕ) → Committed j i ws → length ws < n → pending n j i ≡ Some ws
 pending-words ws zero j i h g = absurd (omega arith)
 pending-words [] (suc n) j i h g = rw h
 pending-words (w ∷ ws) (suc n) j i h g = rw (h.0, pending-words ws n j (i + 1) h.2 (omega arith), h.1)
@@ -91,14 +91,14 @@ pub record Settled (x : List ℕ) (n : ℕ) (m : Memory) : Type 0 where
   pub calm : Low n 1 m.journal ⊎ (kind m.journal 0 ≤ 0)
 
 module _ (x : List ℕ) (n : ℕ) (m : Memory) (s : Settled x n m) where
-  settled_recovery : recovery m ≡ some (clear_stores 0 n)
+  settled_recovery : recovery m ≡ Some (clear_stores 0 n)
   unfolding recovery
   settled_recovery = rw (low_test 2 k m.journal 0 (λ i g. s.low i (omega (arith, s.whole))), none-pending s.calm, s.whole)
     where
       k : ℕ
       k = records m.journal
 
-      none-pending : Low n 1 m.journal ⊎ (kind m.journal 0 ≤ 0) → pending (records m.journal) m.journal 0 ≡ none
+      none-pending : Low n 1 m.journal ⊎ (kind m.journal 0 ≤ 0) → pending (records m.journal) m.journal 0 ≡ None
       none-pending (inl h) = no_commit (records m.journal) m.journal 0 (λ i g. h i (omega (arith, s.whole)))
       none-pending (inr h) = empty-first (records m.journal) m.journal h
 
@@ -133,7 +133,7 @@ pub record Pending (ws : List Word) (new : List ℕ) (n : ℕ) (m : Memory) : Ty
   pub inside : fits (length m.area) ws ≡ true
 
 module _ (ws : List Word) (new : List ℕ) (n : ℕ) (m : Memory) (p : Pending ws new n m) where
-  pending-recovery : recovery m ≡ some (apply_stores ws ++ clear_stores 0 n)
+  pending-recovery : recovery m ≡ Some (apply_stores ws ++ clear_stores 0 n)
   unfolding recovery
   pending-recovery =
       let k : ℕ = records m.journal in

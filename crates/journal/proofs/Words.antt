@@ -18,10 +18,10 @@ use Rattle.journal.proofs.Records.{AllFine}
 
 -- ---- parts and equal bytes
 
-pub get_d_part : (k : ℕ) (l : List ℕ) (at t : ℕ) → t < k → get_or (part l at k) t 0 ≡ get_or l (at + t) 0
-get_d_part zero l at t h = absurd (omega arith)
-get_d_part (suc k) l at zero h = rw add-zero refl
-get_d_part (suc k) l at (suc t) h = let e : at + suc t ≡ at + 1 + t = omega arith in rw e (get_d_part k l (at + 1) t (omega arith))
+pub get_or_part : (k : ℕ) (l : List ℕ) (at t : ℕ) → t < k → get_or (part l at k) t 0 ≡ get_or l (at + t) 0
+get_or_part zero l at t h = absurd (omega arith)
+get_or_part (suc k) l at zero h = rw add-zero refl
+get_or_part (suc k) l at (suc t) h = let e : at + suc t ≡ at + 1 + t = omega arith in rw e (get_or_part k l (at + 1) t (omega arith))
 
 pub alike_at : (k : ℕ) (a b : List ℕ) (at : ℕ) → alike a b at k ≡ true → (t : ℕ) → t < k → get_or a (at + t) 0 ≡ get_or b (at + t) 0
 alike_at zero a b at h t g = absurd (omega arith)
@@ -71,7 +71,7 @@ mixed_put : (old new : List ℕ) (at : ℕ) (x : List ℕ) → at + 8 ≤ length
 mixed_put old new at x h f = record {
   below = λ p g. elim (dec_le at p) [
     | yes q ↦ let e : at + (p - at) ≡ p = omega arith in
-        rw e at (get_or-splice_in x at (part new at 8) (omega arith) (p - at) (omega arith) ∙ get_d_part 8 new at (p - at) (omega arith))
+        rw e at (get_or-splice_in x at (part new at 8) (omega arith) (p - at) (omega arith) ∙ get_or_part 8 new at (p - at) (omega arith))
     | no q ↦ get_or-splice_before x at (part new at 8) (omega arith) p (lt_of_not-le q) ∙ f.below p (lt_of_not-le q)
   ];
   above = λ p g. get_or-splice-behind x at (part new at 8) (omega arith) p g ∙ f.above p (omega arith);

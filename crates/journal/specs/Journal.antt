@@ -24,8 +24,11 @@ use Rattle.std.specs.Prelude.{
   replicate,
   leb,
   eqb,
+  Option,
+  None,
+  Some,
+  option_map,
 }
-use Rattle.std.proofs.Math.Option.{Option, none, some, map}
 use Rattle.wire.specs.Bytes.{field, le_bytes}
 
 -- ---- stores
@@ -150,15 +153,15 @@ refuses_journal j old new = not (kinds_up_to 0 (records j) j 0) || leb (records 
 
 -- a word: go on; a commit: these are all; anything else: nothing is applied
 abbrev pub by_kind : ℕ → Option (List Word) → Option (List Word)
-by_kind zero more = none
+by_kind zero more = None
 by_kind (suc zero) more = more
-by_kind (suc (suc zero)) more = some []
-by_kind (suc (suc (suc k))) more = none
+by_kind (suc (suc zero)) more = Some []
+by_kind (suc (suc (suc k))) more = None
 
 -- "Recovery applies the words if the first record that is not a word is a commit": those words, of n records from record i on
 abbrev pub pending : ℕ → List ℕ → ℕ → Option (List Word)
-pending zero j i = none
-pending (suc n) j i = by_kind (kind j i) (map (λ (ws : List Word). word_at j i ∷ ws) (pending n j (i + 1)))
+pending zero j i = None
+pending (suc n) j i = by_kind (kind j i) (option_map (λ (ws : List Word). word_at j i ∷ ws) (pending n j (i + 1)))
 
 -- an offset is a multiple of 8, and offset + 8 does not exceed L
 abbrev pub fits_in : ℕ → ℕ → Bool
@@ -171,17 +174,17 @@ fits len (w ∷ ws) = fits_in len w.offset && fits len ws
 
 -- the stores of a recovery that has these words to apply: "and then, applied or not, clears the same way"
 abbrev pub recovery_of : ℕ → List Store → Option (List Word) → Option (List Store)
-recovery_of len clear none = some clear
-recovery_of len clear (some ws) = cond (fits len ws) (some (apply_stores ws ++ clear)) none
+recovery_of len clear None = Some clear
+recovery_of len clear (Some ws) = cond (fits len ws) (Some (apply_stores ws ++ clear)) None
 
 -- the stores of a recovery, which "makes no other check"; none where it "gives 17 and changes nothing exactly when a kind exceeds 2, or a word
 -- it would apply has an offset that is no multiple of 8 or offset + 8 exceeds L"
 unfoldable pub recovery : Memory → Option (List Store)
 recovery m =
     let n : ℕ = records m.journal in
-    cond (kinds_up_to 2 n m.journal 0) (recovery_of (length m.area) (clear_stores 0 n) (pending n m.journal 0)) none
+    cond (kinds_up_to 2 n m.journal 0) (recovery_of (length m.area) (clear_stores 0 n) (pending n m.journal 0)) None
 
 -- a recovery that is refused stores nothing
 abbrev pub stores_of : Option (List Store) → List Store
-stores_of none = []
-stores_of (some ss) = ss
+stores_of None = []
+stores_of (Some ss) = ss

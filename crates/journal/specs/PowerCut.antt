@@ -1,7 +1,6 @@
 -- Document 02, request 9: what a power cut leaves. "Starting from an empty journal, a cut after any byte leaves something from which recovery,
 -- itself cut any number of times and then run to its end, gives exactly the old area or the new one; the new one once the commit is stored."
-use Rattle.std.specs.Prelude.{◌≡◌, ℕ, ◌*◌, ◌/◌, ◌^◌, ◌≤◌, ◌<◌, false, cond, List, [], ◌∷◌, length, take, get_or, ltb}
-use Rattle.std.proofs.Math.Option.{some}
+use Rattle.std.specs.Prelude.{◌≡◌, ℕ, ◌*◌, ◌/◌, ◌^◌, ◌≤◌, ◌<◌, false, cond, List, [], ◌∷◌, length, take, get_or, ltb, Some}
 use Rattle.journal.specs.Journal.{
   Store,
   Memory,
@@ -36,7 +35,7 @@ recoveries_cut (k ∷ ks) m = recoveries_cut ks (store_all (take k (stores_of (r
 -- a recovery of m that runs to its end is not refused, gives the area x, and leaves the kinds of all n whole records 0
 pub record Recovers (m : Memory) (x : List ℕ) (n : ℕ) : Type 0 where
   pub stores : List Store
-  pub accepted : recovery m ≡ some stores
+  pub accepted : recovery m ≡ Some stores
   pub area : (store_all stores m).area ≡ x
   pub whole : records (store_all stores m).journal ≡ n
   pub empty : (i : ℕ) → i < n → kind (store_all stores m).journal i ≡ 0

@@ -1,5 +1,6 @@
 -- Laws of the journalled forms: a plan can be journalled; what was decided begins as the rules say; and its steps, run to the end, come to
 -- what the rules say.
+use Rattle.std.specs.Prelude.{Err, Ok, Result}
 use mathlib.Core.Path.{◌≡◌, refl, sym, ap, ◌∙◌, subst}
 use Prim.Native.Nat.{ℕ, ◌≤◌}
 use native.Mathlib.Omega.{arith}
@@ -11,15 +12,12 @@ use Rattle.rules.specs.declared.Header.{Header}
 use Rattle.rules.specs.declared.Refusal.{Refusal}
 use Rattle.rules.specs.Header.{header_of}
 use Rattle.rules.specs.declared.DoneAnswer.{DoneAnswer}
-use Rattle.rules.specs.declared.Done.TheVariants as reply
 use Rattle.rules.specs.Outcome.{Outcome, refused, done, done_answer}
 use Rattle.rules.specs.Edit.{Edit, run}
 use Rattle.demand3.proofs.Answered.{answered-done}
 use Rattle.journal.specs.Journal.{Memory, memory, store_all, changed_words, edit_stores, refuses_journal}
 use Rattle.journal.specs.PowerCut.{Journals}
 use Rattle.plan.specs.declared.Plan.{Plan}
-use Rattle.plan.specs.declared.Planned.{Planned}
-use Rattle.plan.specs.declared.Planned.TheVariants.{Go}
 use Rattle.plan.specs.Plan.{after, outcome_of, WellFormed, CanWrite, Decides}
 use Rattle.plan.proofs.Laws.{header_span_le}
 use Rattle.words.specs.Words.{Writable, next_offset}
@@ -59,10 +57,6 @@ journals h j a content p w e =
 
 -- ---- what was decided
 
--- an edit that is refused has no value and no new area
-not_done : (r : Refusal) (value : ℕ) (new : List ℕ) → refused r ≡ done value new → ⊥
-not_done r value new e = let z : ◌≡◌ {A = ℕ} 0 1 = cc in omega arith
-
 -- where an edit begins that is not refused with 16, it has its plan's value
 start_answer : (p : Plan) (new : List ℕ) (m : Memory) → refuses_journal m.journal m.area new ≡ false
     → (edit_start p new m).done ≡ value_answer p.value
@@ -76,27 +70,27 @@ unfolding edit_start
 refused_start p new m e = rw e refl
 
 -- a plan comes to its value and to its area
-plan_comes : (a content : List ℕ) (p : Plan) (value : ℕ) (new : List ℕ) → outcome_of a content (Go p) ≡ done value new
+plan_comes : (a content : List ℕ) (p : Plan) (value : ℕ) (new : List ℕ) → outcome_of a content (Ok p) ≡ done value new
     → (p.value ≡ value) × (after p a content ≡ new)
 unfolding outcome_of
 plan_comes a content p value new e = (cc, cc)
 
 -- a decision that is fixed by its plan begins as the rules say
-pub starts : (e : Edit) (j a : List ℕ) (base : ℕ) (d : Planned) (s : Steps) → Decides a (content_of e) (run e a base) d
+pub starts : (e : Edit) (j a : List ℕ) (base : ℕ) (d : Result Plan Refusal) (s : Steps) → Decides a (content_of e) (run e a base) d
     → d ≡ planned_for e a base → s ≡ start_planned (content_of e) d (memory j a) → s ≡ start_for e j a base
 starts e j a base d s c f b = go (run e a base) refl c f
   where
     go : (o : Outcome) → run e a base ≡ o → Decides a (content_of e) o d → d ≡ planned_by a (content_of e) o (bare_for e a base)
         → s ≡ start_for e j a base
-    go (refused r) eo c f = rw eo (b ∙ ap (λ (x : Planned). start_planned (content_of e) x (memory j a)) f)
+    go (refused r) eo c f = rw eo (b ∙ ap (λ (x : Result Plan Refusal). start_planned (content_of e) x (memory j a)) f)
     go (done value new) eo c f =
         let q : Plan = plan_for e a base in
         let g = plan_comes a (content_of e) q value new (ap (outcome_of a (content_of e)) (sym f) ∙ c.comes) in
         rw eo
-        (b ∙ ap (λ (x : Planned). start_planned (content_of e) x (memory j a)) f ∙ ap (λ (x : List ℕ). edit_start q x (memory j a)) g.1)
+        (b ∙ ap (λ (x : Result Plan Refusal). start_planned (content_of e) x (memory j a)) f ∙ ap (λ (x : List ℕ). edit_start q x (memory j a)) g.1)
 
 -- and what holds of it holds
-pub begins : (e : Edit) (j a : List ℕ) (base : ℕ) (d : Planned) (s : Steps) → Decides a (content_of e) (run e a base) d
+pub begins : (e : Edit) (j a : List ℕ) (base : ℕ) (d : Result Plan Refusal) (s : Steps) → Decides a (content_of e) (run e a base) d
     → d ≡ planned_for e a base → s ≡ start_planned (content_of e) d (memory j a)
     → SurvivesPlanned (content_of e) d (memory j a) s
     → ((value : ℕ) (new : List ℕ) → Journals j a new → run e a base ≡ done value new → 1 ≤ length (changed_words a new)) → Begins e j a base
@@ -104,11 +98,11 @@ begins e j a base d s c f b v n value new h k =
     let m : Memory = memory j a in
     let t : s ≡ start_for e j a base = starts e j a base d s c f b in
     let q : Plan = plan_for e a base in
-    let fq : d ≡ Go q = f ∙ ap (λ (o : Outcome). planned_by a (content_of e) o (bare_for e a base)) h in
+    let fq : d ≡ Ok q = f ∙ ap (λ (o : Outcome). planned_by a (content_of e) o (bare_for e a base)) h in
     let w : WellFormed (header_of a) (length a) (length (content_of e)) q = subst (CanWrite a (content_of e)) fq c.writable in
     let g : (q.value ≡ value) × (after q a (content_of e) ≡ new) =
     plan_comes a (content_of e) q value new (ap (outcome_of a (content_of e)) (sym fq) ∙ c.comes ∙ h) in
-    let u : SurvivesPlanned (content_of e) (Go q) m s = subst (λ (x : Planned). SurvivesPlanned (content_of e) x m s) fq v in
+    let u : SurvivesPlanned (content_of e) (Ok q) m s = subst (λ (x : Result Plan Refusal). SurvivesPlanned (content_of e) x m s) fq v in
     let r : Journals j a (after q a (content_of e)) = journals (header_of a) j a (content_of e) q w (rw g.1 k) in
     let rn : Journals j a new = subst (Journals j a) g.1 r in
     record {
@@ -153,7 +147,7 @@ journalled-is e j a base s x b i f = record { ruled = ruled (run e a base) refl;
 
     made : (o : Outcome) → run e a base ≡ o → x.done.number ≡ 0 → run e a base ≡ done x.done.value x.buffers.area
     made (refused r) eo zero =
-        let g : x ≡ ended (done_answer (reply.Refused r)) m = ruled (refused r) eo in
+        let g : x ≡ ended (done_answer (Err r)) m = ruled (refused r) eo in
         eo ∙ answered-done a (refused r) x.done x.buffers.area (ap (λ (y : Ended). y.done) g) (ap (λ (y : Ended). y.buffers.area) g) zero
     made (done value new) eo zero = go (refuses_journal j a new) refl (ruled (done value new) eo)
       where

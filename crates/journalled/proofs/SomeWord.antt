@@ -1,14 +1,15 @@
 -- An edit that is done and can be journalled changes at least one word: with none changed the area would be as it was, and so would its reading,
 -- but an add makes the reading one longer and a void one shorter.
+use Rattle.std.specs.Prelude.{None, Option, Some}
 use mathlib.Core.Path.{◌≡◌, refl, sym, ap, ◌∙◌}
 use Prim.Native.Nat.{ℕ, ◌+◌, ◌-◌, ◌≤◌, ◌<◌}
 use native.Mathlib.Omega.{arith}
 use mathlib.Core.Bool.{Bool, true, false, cond}
 use mathlib.Core.List.{List, [], ◌∷◌}
-use mathlib.Core.Option.{Option, none, some}
 use lib.ListN.{length, take, drop, length-append, take-append-drop}
 use lib.Dec.{eqb}
 use borrow.Author.Tests.{ne_eqb, eqb-true}
+use Rattle.wire.proofs.Apart.{apart}
 use Rattle.rules.specs.declared.Entry.{Entry}
 use Rattle.rules.specs.declared.Refusal.TheVariants.{Tag}
 use Rattle.rules.specs.Edition.{current}
@@ -37,10 +38,10 @@ put_longer k x xs =
     rw length-append (omega arith)
 
 -- an occurrence that is found, taken out, makes it one shorter
-out_shorter : (a : List ℕ) (tag n : ℕ) (es : List Entry) (e : Entry) → (tag ≡ 0 → ⊥) → occurrence tag n es ≡ some e
+out_shorter : (a : List ℕ) (tag n : ℕ) (es : List Entry) (e : Entry) → (tag ≡ 0 → ⊥) → occurrence tag n es ≡ Some e
     → length (take_out tag n (live_in a es)) + 1 ≡ length (live_in a es)
 unfolding occurrence take_out live_in
-out_shorter a tag n [] e ht h = absurd (let z : ◌≡◌ {A = ℕ} 0 1 = cc in omega arith)
+out_shorter a tag n [] e ht h = apart cc
 out_shorter a tag n (x ∷ es) e ht h = go (eqb x.tag_id tag) (eqb n 0) refl refl h (λ m. out_shorter a tag m es e ht)
   where
     solid : eqb x.tag_id tag ≡ true → is_void x ≡ false
@@ -52,8 +53,8 @@ out_shorter a tag n (x ∷ es) e ht h = go (eqb x.tag_id tag) (eqb n 0) refl ref
     other false s k = rw s (omega arith)
 
     go : (s z : Bool) → eqb x.tag_id tag ≡ s → eqb n 0 ≡ z
-        → cond s (cond z (some x) (occurrence tag (n - 1) es)) (occurrence tag n es) ≡ some e
-        → ((m : ℕ) → occurrence tag m es ≡ some e → length (take_out tag m (live_in a es)) + 1 ≡ length (live_in a es))
+        → cond s (cond z (Some x) (occurrence tag (n - 1) es)) (occurrence tag n es) ≡ Some e
+        → ((m : ℕ) → occurrence tag m es ≡ Some e → length (take_out tag m (live_in a es)) + 1 ≡ length (live_in a es))
         → length (take_out tag n (live_in a (x ∷ es))) + 1 ≡ length (live_in a (x ∷ es))
     go true true hs hz k ih = rw (solid hs, hs, hz) (omega arith)
     go true false hs hz k ih = rw (solid hs, hs, hz) (omega (arith, ih (n - 1) k))
@@ -69,8 +70,8 @@ void_shorter a tag n value bytes h =
   where
     go : (o : Option Entry) → occurrence tag n (entries_of a) ≡ o → 0 < tag → void_at a o ≡ done value bytes
         → length (take_out tag n (live_in a (entries_of a))) + 1 ≡ length (live_in a (entries_of a))
-    go none f s y = absurd (let z : ◌≡◌ {A = ℕ} 0 1 = cc in omega arith)
-    go (some e) f s y = out_shorter a tag n (entries_of a) e (λ z. omega arith) f
+    go None f s y = apart cc
+    go (Some e) f s y = out_shorter a tag n (entries_of a) e (λ z. omega arith) f
 
 -- ---- the words
 
@@ -100,7 +101,7 @@ some_word_add j a new base value tag content use_voids =
 pub some_word_aligned : (j a new : List ℕ) (base value tag : ℕ) (content : List ℕ) (exponent : ℕ) → Journals j a new
     → run (to_add_aligned tag content exponent) a base ≡ done value new → 1 ≤ length (changed_words a new)
 some_word_aligned j a new base value tag content exponent =
-    let l = put_longer (position a none) (record { tag = tag; content = content }) (reading a) in
+    let l = put_longer (position a None) (record { tag = tag; content = content }) (reading a) in
     some_word (to_add_aligned tag content exponent) j a new base value refl (λ s. omega (arith, l, s))
 
 pub some_word_void : (j a new : List ℕ) (base value tag n : ℕ) → Journals j a new → run (to_void tag n) a base ≡ done value new

@@ -1,14 +1,12 @@
 -- Document 02, request 9: "Beside the plain calls, add forms of add, add aligned and void with a journal in a second lent buffer." What a form
 -- answers and leaves, of an edit e of the list a at base with the journal j; and where its steps begin.
-use Rattle.std.specs.Prelude.{◌≡◌, ℕ, ◌≤◌, false, cond, List, length}
-use Rattle.rules.specs.declared.Done.TheVariants as reply
+use Rattle.rules.specs.declared.Refusal.{Refusal}
+use Rattle.std.specs.Prelude.{Err, Ok, Result, ◌≡◌, ℕ, ◌≤◌, false, cond, List, length}
 use Rattle.rules.specs.Outcome.{Outcome, refused, done, done_answer}
 use Rattle.rules.specs.Edit.{Edit, run}
 use Rattle.journal.specs.Journal.{Memory, memory, store_all, changed_words, edit_stores, refuses_journal}
 use Rattle.journal.specs.PowerCut.{Journals}
 use Rattle.plan.specs.declared.Plan.{Plan}
-use Rattle.plan.specs.declared.Planned.{Planned}
-use Rattle.plan.specs.declared.Planned.TheVariants.{Go, Refused}
 use Rattle.plan.specs.Plan.{after}
 use Rattle.edit.specs.Decide.{content_of, plan_for}
 use Rattle.steps.specs.declared.Steps.{Steps}
@@ -20,7 +18,7 @@ use Rattle.steps.specs.Survives.{Survives, SurvivesWhereAccepted}
 -- what the form of an edit that comes to o answers and leaves: the plain call's refusals, then "Refusal 16, after all others", and a refusal
 -- changes neither buffer; else the plain call's value, and the stores of the edit that makes its new area
 abbrev pub journalled : Outcome → Memory → Ended
-journalled (refused r) m = ended (done_answer (reply.Refused r)) m
+journalled (refused r) m = ended (done_answer (Err r)) m
 journalled (done value new) m =
     cond (refuses_journal m.journal m.area new) (ended (refusal_answer 16) m)
     (ended (value_answer value) (store_all (edit_stores m.journal m.area new) m))
@@ -29,7 +27,7 @@ journalled (done value new) m =
 
 -- where the steps of an edit that comes to o begin, with its plan
 abbrev pub start_of : Outcome → Plan → Memory → Steps
-start_of (refused r) p m = stopped (done_answer (reply.Refused r))
+start_of (refused r) p m = stopped (done_answer (Err r))
 start_of (done value new) p m = edit_start p new m
 
 -- those of an edit e of the list a at base, with the journal j
@@ -59,11 +57,11 @@ pub record Journalled (e : Edit) (j a : List ℕ) (base : ℕ) (x : Ended) : Typ
 -- ---- for the code
 
 -- where what was decided begins
-abbrev pub start_planned : List ℕ → Planned → Memory → Steps
-start_planned content (Go p) m = edit_start p (after p m.area content) m
-start_planned content (Refused r) m = stopped (done_answer (reply.Refused r))
+abbrev pub start_planned : List ℕ → Result Plan Refusal → Memory → Steps
+start_planned content (Ok p) m = edit_start p (after p m.area content) m
+start_planned content (Err r) m = stopped (done_answer (Err r))
 
 -- and survives
-abbrev pub SurvivesPlanned : List ℕ → Planned → Memory → Steps → Type 0
-SurvivesPlanned content (Go p) m s = SurvivesWhereAccepted content m.journal m.area (after p m.area content) s
-SurvivesPlanned content (Refused r) m s = Unit
+abbrev pub SurvivesPlanned : List ℕ → Result Plan Refusal → Memory → Steps → Type 0
+SurvivesPlanned content (Ok p) m s = SurvivesWhereAccepted content m.journal m.area (after p m.area content) s
+SurvivesPlanned content (Err r) m s = Unit

@@ -1,4 +1,5 @@
 // What each form decides, and where its steps begin. Reading only.
+// Three functions: each is two lines, and one over a decision would need a contract longer than they are.
 ghost use Rattle.std.specs.Prelude.{◌≡◌};
 ghost use Rattle.rules.specs.Edit.{to_add, to_add_aligned, to_void};
 ghost use Rattle.journal.specs.Journal.{memory};
@@ -6,21 +7,20 @@ ghost use Rattle.plan.specs.Plan.{CanWrite};
 ghost use Rattle.journalled.specs.Journalled.{start_for, Begins, start_planned, SurvivesPlanned};
 
 use edit::decide;
-use plan::Planned;
-use rules::Done;
+use plan::Plan;
+use rules::{DoneAnswer, Refusal};
 use steps::{Steps, begin};
 
 // Where what was decided begins.
-fn start(planned: Planned, area: &[u8], data: &[u8], journal: &[u8]) -> Steps
+fn start(planned: Result<Plan, Refusal>, area: &[u8], data: &[u8], journal: &[u8]) -> Steps
     requires { CanWrite area.now «data».now planned }
     ensures value { result ≡ start_planned «data».now planned (memory journal.now area.now) }
     ensures survives_planned { SurvivesPlanned «data».now planned (memory journal.now area.now) result }
 {
-    let Planned::Go(p) = planned else {
-        let refused = Done::Refused(planned.refusal());
-        return Steps::stopped(refused.numbers());
-    };
-    begin::edit_start(p, area, data, journal)
+    match planned {
+        Ok(p) => begin::edit_start(p, area, data, journal),
+        Err(r) => Steps::stopped(DoneAnswer::from(Err(r))),
+    }
 }
 
 // An add.
@@ -54,6 +54,5 @@ pub fn void(area: &[u8], base: u64, tag: u32, n: u64, journal: &[u8]) -> Steps
     ensures begins { Begins (to_void tag n) journal.now area.now base }
 {
     let planned = decide::decide_void(area, base, tag, n);
-    let none: [u8; 0] = [];
-    start(planned, area, &none, journal)
+    start(planned, area, &[], journal)
 }

@@ -1,17 +1,17 @@
 -- Request 8: the place of a walk that is refused is that of the first bad entry.
+use Rattle.std.specs.Prelude.{Err, None, Option, Result, Some}
+use Rattle.wire.proofs.Apart.{apart}
+use Rattle.rules.specs.declared.Facts.{Facts}
 use mathlib.Core.Path.{◌≡◌, refl, sym, ap, ◌∙◌}
 use Prim.Native.Nat.{ℕ, zero, suc, ◌-◌, ◌%◌, ◌≤◌, ◌<◌}
 use native.Mathlib.Omega.{arith}
 use mathlib.Core.Bool.{Bool, true, false}
 use mathlib.Core.List.{List}
-use mathlib.Core.Option.{Option, none, some}
 use lib.ListN.{length}
 use lib.Dec.{eqb}
 use borrow.Author.Tests.{eqb-true, eqb-false}
 use Rattle.rules.specs.declared.Entry.{Entry}
 use Rattle.rules.specs.declared.Header.{Header}
-use Rattle.rules.specs.declared.Checked.{Checked}
-use Rattle.rules.specs.declared.Checked.TheVariants.{Refused}
 use Rattle.rules.specs.declared.Refusal.{Refusal}
 use Rattle.rules.specs.declared.Refusal.TheVariants as refusal
 use Rattle.rules.specs.Header.{header_of}
@@ -37,11 +37,11 @@ use Rattle.laws.proofs.Check.{past, header-sound}
 module _ (version : ℕ) (a : List ℕ) (used at : ℕ) where
   -- no walk is broken at used_size
   not_ended : {from : ℕ} → from ≡ used → walk_from version a used from ≡ broken at → ⊥
-  not_ended e k = let w = sym (ap (walk_from version a used) e ∙ walk_end version a used) ∙ k in (let z : ◌≡◌ {A = ℕ} 0 1 = cc in omega arith)
+  not_ended e k = let w = sym (ap (walk_from version a used) e ∙ walk_end version a used) ∙ k in (apart cc)
 
   -- behind an entry, the rest is what is broken
   follow-broken : (e : Entry) (w : Walk) → follow e w ≡ broken at → w ≡ broken at
-  follow-broken e (entries es) k = absurd (let z : ◌≡◌ {A = ℕ} 0 1 = cc in omega arith)
+  follow-broken e (entries es) k = apart cc
   follow-broken e (broken x) k = k
 
   -- a walk that is broken is broken at its first bad entry; n counts down
@@ -76,12 +76,12 @@ module _ (version : ℕ) (a : List ℕ) (used at : ℕ) where
 -- ---- the check
 
 -- a refusal of a lower number is not 8
-lower : (at : ℕ) (r : Refusal) → number_of r < 8 → some r ≡ some (refusal.Entry at) → ⊥
+lower : (at : ℕ) (r : Refusal) → number_of r < 8 → Some r ≡ Some (refusal.Entry at) → ⊥
 lower at r l e = let q : r ≡ refusal.Entry at = cc in let n = ap number_of q in omega arith
 
 -- checks 1 to 6 refuse no entry
 header_entry : (ed : Edition) (editing : Bool) (base len : ℕ) (h : Header) (at : ℕ)
-    → header_refusal ed editing base len h ≡ some (refusal.Entry at) → ⊥
+    → header_refusal ed editing base len h ≡ Some (refusal.Entry at) → ⊥
 unfolding header_refusal fields_refusal
 header_entry ed editing base len h at k =
     let p₁ = past (refuses_area base len) _ _ _ (lower at refusal.Area (omega arith)) k in
@@ -95,24 +95,24 @@ header_entry ed editing base len h at k =
     omega arith
 
 -- so refusal 8 comes behind them
-behind-header : (o : Option Refusal) (x : Checked) (at : ℕ) → (o ≡ some (refusal.Entry at) → ⊥) → unless o x ≡ Refused (refusal.Entry at)
-    → (o ≡ none) × (x ≡ Refused (refusal.Entry at))
-behind-header (some r) x at n k = absurd (let q : r ≡ refusal.Entry at = cc in n (ap some q))
-behind-header none x at n k = (refl, k)
+behind-header : (o : Option Refusal) (x : Result Facts Refusal) (at : ℕ) → (o ≡ Some (refusal.Entry at) → ⊥) → unless o x ≡ Err (refusal.Entry at)
+    → (o ≡ None) × (x ≡ Err (refusal.Entry at))
+behind-header (Some r) x at n k = absurd (let q : r ≡ refusal.Entry at = cc in n (ap Some q))
+behind-header None x at n k = (refl, k)
 
 -- and is that of a broken walk
-refused-walk : (h : Header) (w : Walk) (at : ℕ) → walked h w ≡ Refused (refusal.Entry at) → w ≡ broken at
-refused-walk h (entries es) at k = absurd (let z : ◌≡◌ {A = ℕ} 0 1 = cc in omega arith)
+refused-walk : (h : Header) (w : Walk) (at : ℕ) → walked h w ≡ Err (refusal.Entry at) → w ≡ broken at
+refused-walk h (entries es) at k = apart cc
 refused-walk h (broken x) at k = let q : x ≡ at = cc in ap broken q
 
 module _ (ed : Edition) (editing : Bool) (a : List ℕ) (base at : ℕ) where
   -- a list that is refused with 8 passed 1 to 7, and its walk is broken there
-  bad_at : checks_of ed editing a base ≡ Refused (refusal.Entry at) → BadAt ed editing a base at
+  bad_at : checks_of ed editing a base ≡ Err (refusal.Entry at) → BadAt ed editing a base at
   unfolding checks_of walk
   bad_at k =
       let h : Header = header_of a in
       let p = behind-header (header_refusal ed editing base (length a) h) _ at (header_entry ed editing base (length a) h at) k in
-      let q = past (refuses_checksum ed a) _ _ _ (λ e. (let z : ◌≡◌ {A = ℕ} 0 1 = cc in omega arith)) p.1 in
+      let q = past (refuses_checksum ed a) _ _ _ (λ e. (apart cc)) p.1 in
       let z = (header-sound ed editing base (length a) h p.0).0.sizes in
       let w = refused-walk h (walk a) at q.1 in
       record {

@@ -1,6 +1,10 @@
 -- The reading that a call answers is never -0.0, and it is settled in all its 64 bits.
 -- The gain is above zero and the counts are not below it, so their product has no minus sign. Its sum with the offset has one only where it is
 -- below zero, and there its size is a whole number of the format's smallest values, one at least, which no rounding takes to zero.
+use Rattle.std.specs.Prelude.{Err, Ok, Result}
+use Rattle.wire.proofs.Apart.{apart}
+use Rattle.rules.specs.declared.Facts.{Facts}
+use Rattle.rules.specs.declared.Refusal.{Refusal}
 use mathlib.Core.Path.{◌≡◌, refl, sym, ap, subst, ◌∙◌}
 use Prim.Native.Nat.{ℕ, zero, suc, ◌+◌, ◌-◌, ◌*◌, ◌^◌, ◌≤◌, ◌<◌}
 use native.Mathlib.Omega.{arith}
@@ -38,10 +42,10 @@ use lib.Ieee.Fits.{and_l, and_r, down_pos, add-fits, mul-fits}
 use lib.Ieee.Order.{round_mono}
 use lib.Ieee.Positive.{positive, above_of_le}
 use Rattle.rules.specs.declared.Entry.{Entry}
-use Rattle.rules.specs.declared.Checked.{Checked}
-use Rattle.rules.specs.declared.Checked.TheVariants as checked
 use Rattle.rules.specs.declared.certificate.Certificate.{Certificate}
-use Rattle.rules.specs.declared.certificate.Certified.TheVariants.{Read, NotOne, Another, Unsound}
+use Rattle.rules.specs.declared.certificate.Verdict.{Verdict}
+use Rattle.rules.specs.declared.certificate.Uncertified.{Uncertified}
+use Rattle.rules.specs.declared.certificate.Uncertified.TheVariants as uncertified
 use Rattle.rules.specs.Entries.{entries_of}
 use Rattle.rules.specs.Tags.{certificate_tag, certificate_size}
 use Rattle.rules.specs.Check.{check}
@@ -182,34 +186,35 @@ abbrev SoundReading : Float → Type 0
 SoundReading x = (c : Certificate) × (refuses_contents c ≡ false) × (reading_of c ≡ x)
 
 -- what a call reads is that
-read_sound : (a : List ℕ) (base serial test : ℕ) (x : Float) (p : Bool) → certify a base serial test ≡ Read x p → SoundReading x
+read_sound : (a : List ℕ) (base serial test : ℕ) (v : Verdict) → certify a base serial test ≡ Ok v → SoundReading v.reading
 unfolding certify judged
-read_sound a base serial test x p h = go (check a base) h
+read_sound a base serial test v h = go (check a base) h
   where
-    one : (c : Certificate) → certified serial test c ≡ Read x p → SoundReading x
+    never : {e : Uncertified} → ◌≡◌ {A = Result Verdict Uncertified} (Err e) (Ok v) → ⊥
+    never r = apart cc
+
+    one : (c : Certificate) → certified serial test c ≡ Ok v → SoundReading v.reading
     one c q =
-        let n : Another ≡ Read x p → ⊥ = λ r. (let z : ◌≡◌ {A = ℕ} 0 1 = cc in omega arith) in
-        let u : Unsound ≡ Read x p → ⊥ = λ r. (let z : ◌≡◌ {A = ℕ} 0 1 = cc in omega arith) in
-        let j = past (refuses_contents c) Unsound _ (Read x p) u (past (refuses_identity serial test c) Another _ (Read x p) n q).1 in
+        let i = past (refuses_identity serial test c) (Err uncertified.Another) _ (Ok v) never q in
+        let j = past (refuses_contents c) (Err uncertified.Unsound) _ (Ok v) never i.1 in
         let e = j.1 in
         (c, j.0, cc)
 
-    ones : (es : List Entry) → certified_in a serial test es ≡ Read x p → SoundReading x
-    ones [] q = absurd (let z : ◌≡◌ {A = ℕ} 0 1 = cc in omega arith)
+    ones : (es : List Entry) → certified_in a serial test es ≡ Ok v → SoundReading v.reading
+    ones [] q = apart cc
     ones (e ∷ []) q =
-        let n : NotOne ≡ Read x p → ⊥ = λ r. (let z : ◌≡◌ {A = ℕ} 0 1 = cc in omega arith) in
-        one (certificate_of (live_at a e).content) (past (not (eqb e.data_size certificate_size)) NotOne _ (Read x p) n q).1
-    ones (e ∷ f ∷ es) q = absurd (let z : ◌≡◌ {A = ℕ} 0 1 = cc in omega arith)
+        one (certificate_of (live_at a e).content) (past (not (eqb e.data_size certificate_size)) (Err uncertified.NotOne) _ (Ok v) never q).1
+    ones (e ∷ f ∷ es) q = apart cc
 
-    go : (c : Checked) → after_checks c (certified_in a serial test (tagged certificate_tag (entries_of a))) ≡ Read x p → SoundReading x
-    go (checked.Accepted f) q = ones (tagged certificate_tag (entries_of a)) q
-    go (checked.Refused r) q = absurd (let z : ◌≡◌ {A = ℕ} 0 1 = cc in omega arith)
+    go : (c : Result Facts Refusal) → after_checks c (certified_in a serial test (tagged certificate_tag (entries_of a))) ≡ Ok v → SoundReading v.reading
+    go (Ok f) q = ones (tagged certificate_tag (entries_of a)) q
+    go (Err r) q = apart cc
 
 -- the reading that a call answers is never -0.0
-pub never_negative_zero : (a : List ℕ) (base serial test : ℕ) (x : Float) (p : Bool) → certify a base serial test ≡ Read x p
-    → x ≡ minus_zero → ⊥
-never_negative_zero a base serial test x p h k =
-    let s = read_sound a base serial test x p h in
+pub never_negative_zero : (a : List ℕ) (base serial test : ℕ) (v : Verdict) → certify a base serial test ≡ Ok v
+    → v.reading ≡ minus_zero → ⊥
+never_negative_zero a base serial test v h k =
+    let s = read_sound a base serial test v h in
     reading_plain s.0 s.1 (s.2 ∙ k)
 
 -- what is neither infinite nor no number is a number
@@ -220,11 +225,12 @@ finite_number (inf s) h = tt
 finite_number (fin s m e) h = tt
 
 -- it has a pattern of 64 bits, and no other has its value: all its bits are settled
-pub reading_bits : (a : List ℕ) (base serial test : ℕ) (x : Float) (p : Bool) → certify a base serial test ≡ Read x p
-    → (float (to_bits binary64 x) ≡ x) × ((n : ℕ) → n < 2 ^ 64 → float n ≡ x → n ≡ to_bits binary64 x)
+pub reading_bits : (a : List ℕ) (base serial test : ℕ) (v : Verdict) → certify a base serial test ≡ Ok v
+    → (float (to_bits binary64 v.reading) ≡ v.reading) × ((n : ℕ) → n < 2 ^ 64 → float n ≡ v.reading → n ≡ to_bits binary64 v.reading)
 unfolding refuses_contents gauge_reading
-reading_bits a base serial test x p h =
-    let s = read_sound a base serial test x p h in
+reading_bits a base serial test v h =
+    let x = v.reading in
+    let s = read_sound a base serial test v h in
     let fitting : T (fits binary64 x) = subst (λ (y : Float). T (fits binary64 y)) s.2 (add-fits binary64 _ (float s.0.offset)) in
     let number : T (not (is_nan x)) = finite_number x (λ q. true≢false (rw (s.2, q, or-true) at s.1)) in
     (of_bits-to_bits binary64 x fitting, λ n l q. sym (rw q at (to_bits-of_bits binary64 n l (rw q number))))

@@ -1,18 +1,18 @@
 -- What an accepted check tells of a list, and that no more is asked of one.
+use Rattle.std.specs.Prelude.{Err, None, Ok, Option, Result, Some}
 use mathlib.Core.Path.{◌≡◌, refl, sym, ap, ◌∙◌}
 use Prim.Native.Nat.{ℕ, ◌+◌, ◌%◌, ◌≤◌}
 use native.Mathlib.Omega.{arith}
 use mathlib.Core.Bool.{Bool, true, false, not, ◌&&◌, ◌||◌, cond}
 use mathlib.Core.List.{List}
-use mathlib.Core.Option.{Option, none, some}
 use lib.ListN.{length}
 use lib.Dec.{leb, ltb}
 use borrow.Author.Tests.{ltb-false, leb-true, eqb-true, eqb-false, not-false, le-ltb, le-leb, eq-eqb, ne_eqb}
+use Rattle.wire.proofs.Apart.{apart}
 use Rattle.rules.specs.declared.Entry.{Entry}
 use Rattle.rules.specs.declared.Header.{Header}
+use Rattle.rules.specs.declared.Extent.{Extent}
 use Rattle.rules.specs.declared.Facts.{Facts}
-use Rattle.rules.specs.declared.Checked.{Checked}
-use Rattle.rules.specs.declared.Checked.TheVariants.{Accepted, Refused}
 use Rattle.rules.specs.declared.Refusal.{Refusal}
 use Rattle.rules.specs.Area.{multiple8, usable, max_length, max_alignment, max_address}
 use Rattle.rules.specs.Header.{header_of, current_version, least_alignment}
@@ -43,7 +43,6 @@ use Rattle.rules.specs.Refusals.{
 }
 use Rattle.rules.specs.Check.{walked, fields_refusal, header_refusal, unless, checks_of}
 use Rattle.rules.specs.declared.Refusal.TheVariants.{Checksum, Tag}
-use Rattle.rules.specs.declared.Found.TheVariants as found
 use Rattle.rules.specs.Find.{found_at, after_check, find_of}
 use Rattle.laws.proofs.Walk.{header-least, neither, All, Inside, walk_inside, occurrence-inside}
 
@@ -52,7 +51,7 @@ use Rattle.laws.proofs.Walk.{header-least, neither, All, Inside, walk_inside, oc
 -- both of two tests hold
 both_true : (x y : Bool) → (x && y) ≡ true → (x ≡ true) × (y ≡ true)
 both_true true y h = (refl, h)
-both_true false y h = absurd (let z : ◌≡◌ {A = ℕ} 0 1 = cc in omega arith)
+both_true false y h = apart cc
 
 -- where the answer is not the one that a test gives, the test failed and the answer is the next one
 pub past : {A : Type 0} (b : Bool) (x y z : A) → (x ≡ z → ⊥) → cond b x y ≡ z → (b ≡ false) × (y ≡ z)
@@ -116,7 +115,7 @@ current_of : (editing : Bool) (version : ℕ) → (editing && ltb current_versio
 current_of true version h n e =
     let l : version ≤ current_version = ltb-false current_version version h in
     omega (arith, n)
-current_of false version h n e = absurd (let z : ◌≡◌ {A = ℕ} 0 1 = cc in omega arith)
+current_of false version h n e = apart cc
 
 -- an edit of a list of version 1 is not refused
 current_holds : (editing : Bool) (version : ℕ) → (editing ≡ true → version ≡ current_version) → (editing && ltb current_version version) ≡ false
@@ -135,10 +134,10 @@ pub record SoundHeader (ed : Edition) (base len : ℕ) (h : Header) : Type 0 whe
 
 module _ (ed : Edition) (editing : Bool) (base len : ℕ) (h : Header) where
   -- what a header that is not refused tells; of an edit also that the version is 1
-  pub header-sound : header_refusal ed editing base len h ≡ none → SoundHeader ed base len h × (editing ≡ true → h.version ≡ current_version)
+  pub header-sound : header_refusal ed editing base len h ≡ None → SoundHeader ed base len h × (editing ≡ true → h.version ≡ current_version)
   unfolding header_refusal fields_refusal
   header-sound k =
-      let never : (r : Refusal) → some r ≡ none → ⊥ = λ r e. (let z : ◌≡◌ {A = ℕ} 0 1 = cc in omega arith) in
+      let never : (r : Refusal) → Some r ≡ None → ⊥ = λ r e. (apart cc) in
       let p₁ = past (refuses_area base len) _ _ _ (never _) k in
       let p₂ = past (refuses_short ed len) _ _ _ (never _) p₁.1 in
       let p₃ = past (refuses_signature ed h) _ _ _ (never _) p₂.1 in
@@ -157,7 +156,7 @@ module _ (ed : Edition) (editing : Bool) (base len : ℕ) (h : Header) where
       )
 
   -- and a header that keeps to all of it is not refused
-  pub header-passes : SoundHeader ed base len h → (editing ≡ true → h.version ≡ current_version) → header_refusal ed editing base len h ≡ none
+  pub header-passes : SoundHeader ed base len h → (editing ≡ true → h.version ≡ current_version) → header_refusal ed editing base len h ≡ None
   unfolding header_refusal fields_refusal
   header-passes s v =
       simp (
@@ -200,22 +199,22 @@ facts_of h es =
     }
 
 -- an accepted walk is not broken
-accepted-walk : (h : Header) (w : Walk) (f : Facts) → walked h w ≡ Accepted f → w ≡ entries (seen w)
+accepted-walk : (h : Header) (w : Walk) (f : Facts) → walked h w ≡ Ok f → w ≡ entries (seen w)
 accepted-walk h (entries es) f k = refl
-accepted-walk h (broken at) f k = absurd (let z : ◌≡◌ {A = ℕ} 0 1 = cc in omega arith)
+accepted-walk h (broken at) f k = apart cc
 
 -- the answer behind a refusal that did not come
-not_refused : (o : Option Refusal) (x : Checked) (f : Facts) → unless o x ≡ Accepted f → (o ≡ none) × (x ≡ Accepted f)
-not_refused (some r) x f k = absurd (let z : ◌≡◌ {A = ℕ} 0 1 = cc in omega arith)
-not_refused none x f k = (refl, k)
+not_refused : (o : Option Refusal) (x : Result Facts Refusal) (f : Facts) → unless o x ≡ Ok f → (o ≡ None) × (x ≡ Ok f)
+not_refused (Some r) x f k = apart cc
+not_refused None x f k = (refl, k)
 
 module _ (ed : Edition) (editing : Bool) (a : List ℕ) (base : ℕ) where
   -- what an accepted check tells; of an admission to an edit also that the version is 1
-  pub sound : (f : Facts) → checks_of ed editing a base ≡ Accepted f
+  pub sound : (f : Facts) → checks_of ed editing a base ≡ Ok f
       → Sound ed a base × (editing ≡ true → (header_of a).version ≡ current_version)
   unfolding checks_of
   sound f k =
-      let never : Refused Checksum ≡ Accepted f → ⊥ = λ e. (let z : ◌≡◌ {A = ℕ} 0 1 = cc in omega arith) in
+      let never : Err Checksum ≡ Ok f → ⊥ = λ e. (apart cc) in
       let p = not_refused (header_refusal ed editing base (length a) (header_of a)) _ f k in
       let q = past (refuses_checksum ed a) _ _ _ never p.1 in
       let s = header-sound ed editing base (length a) (header_of a) p.0 in (
@@ -230,7 +229,7 @@ module _ (ed : Edition) (editing : Bool) (a : List ℕ) (base : ℕ) where
 
   -- a list that keeps to all of it is accepted
   pub accepts : (s : Sound ed a base) → (editing ≡ true → (header_of a).version ≡ current_version)
-      → checks_of ed editing a base ≡ Accepted (facts_of (header_of a) s.row)
+      → checks_of ed editing a base ≡ Ok (facts_of (header_of a) s.row)
   unfolding checks_of
   accepts s v = simp (header-passes ed editing base (length a) (header_of a) s.header v, s.summed, s.walked)
 
@@ -248,31 +247,30 @@ module _ (ed : Edition) (a : List ℕ) (base : ℕ) (s : Sound ed a base) where
   row_inside = walk_inside (header_of a).version a (header_of a).used_size (first_entry (header_of a)) s.row s.walked
 
   -- so does each occurrence of a tag
-  pub occurs_inside : (tag n : ℕ) (e : Entry) → occurrence tag n (entries_of a) ≡ some e
+  pub occurs_inside : (tag n : ℕ) (e : Entry) → occurrence tag n (entries_of a) ≡ Some e
       → Inside (first_entry (header_of a)) (header_of a).used_size e
   occurs_inside tag n e h = occurrence-inside _ tag n s.row e row_inside (ap (occurrence tag n) (sym (entries_row a s.row s.walked)) ∙ h)
 
 -- the data that find answers lies within the area
-pub find-within : (ed : Edition) (a : List ℕ) (base tag n offset size : ℕ) → find_of ed a base tag n ≡ found.At offset size
-    → offset + size ≤ length a
+pub find-within : (ed : Edition) (a : List ℕ) (base tag n : ℕ) (x : Extent) → find_of ed a base tag n ≡ Ok x → x.offset + x.size ≤ length a
 unfolding find_of
-find-within ed a base tag n offset size h = go (checks_of ed false a base) refl h
+find-within ed a base tag n x h = go (checks_of ed false a base) refl h
   where
-    at_entry : (s : Sound ed a base) (o : Option Entry) → occurrence tag n (entries_of a) ≡ o → found_at o ≡ found.At offset size → offset + size ≤ length a
-    at_entry s (some e) p k =
+    at_entry : (s : Sound ed a base) (o : Option Entry) → occurrence tag n (entries_of a) ≡ o → found_at o ≡ Ok x → x.offset + x.size ≤ length a
+    at_entry s (Some e) p k =
         let i = occurs_inside ed a base s tag n e p in
-        let x : e.at + e.hdr_size ≡ offset = cc in
-        let y : e.data_size ≡ size = cc in
+        let o : e.at + e.hdr_size ≡ x.offset = cc in
+        let z : e.data_size ≡ x.size = cc in
         omega arith
-    at_entry s none p k = absurd (let z : ◌≡◌ {A = ℕ} 0 1 = cc in omega arith)
+    at_entry s None p k = apart cc
 
-    go : (c : Checked) → checks_of ed false a base ≡ c
-        → after_check c (cond (refuses_tag tag) (found.Refused Tag) (found_at (occurrence tag n (entries_of a)))) ≡ found.At offset size
-        → offset + size ≤ length a
-    go (Accepted f) p k =
-        let never : found.Refused Tag ≡ found.At offset size → ⊥ = λ e. (let z : ◌≡◌ {A = ℕ} 0 1 = cc in omega arith) in
+    go : (c : Result Facts Refusal) → checks_of ed false a base ≡ c
+        → after_check c (cond (refuses_tag tag) (Err Tag) (found_at (occurrence tag n (entries_of a)))) ≡ Ok x
+        → x.offset + x.size ≤ length a
+    go (Ok f) p k =
+        let never : Err Tag ≡ Ok x → ⊥ = λ e. (apart cc) in
         at_entry (sound ed false a base f p).0 (occurrence tag n (entries_of a)) refl (past (refuses_tag tag) _ _ _ never k).1
-    go (Refused r) p k = absurd (let z : ◌≡◌ {A = ℕ} 0 1 = cc in omega arith)
+    go (Err r) p k = apart cc
 
 -- ---- the sizes of an accepted list
 

@@ -7,7 +7,7 @@ use lib.ListN.{length, take, get_or, length-append}
 use lib.Seq.{take_all}
 use lib.Bits.{bit_xor, xor_zero_r}
 use Rattle.wire.specs.Bytes.{field, le_bytes, xor}
-use Rattle.wire.proofs.Xor.{xor-append}
+use Rattle.wire.proofs.XorLaws.{xor-append}
 use Rattle.rules.specs.declared.Header.{Header}
 use Rattle.rules.specs.Area.{down8}
 use Rattle.rules.specs.Header.{header_of, header_size, header_bytes, fresh_header, signature, current_version}

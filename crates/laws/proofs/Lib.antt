@@ -26,3 +26,4 @@ pub mod Tiles
 pub mod Cleared
 pub mod OneCertificate
 pub mod Certificate
+pub mod Exits

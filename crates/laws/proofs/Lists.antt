@@ -70,8 +70,8 @@ pub length_part : (a : List ℕ) (o n : ℕ) → o + n ≤ length a → length (
 length_part a o n h = let d : length (drop o a) ≡ length a - o = length-drop o a in length-take-le n (drop o a) (omega arith)
 
 -- a byte of a part
-pub get_d_part : (a : List ℕ) (o n i : ℕ) → i < n → get_or (take n (drop o a)) i 0 ≡ get_or a (o + i) 0
-get_d_part a o n i h = get_or-take n (drop o a) i 0 h ∙ get_or-drop o a i 0
+pub get_or_part : (a : List ℕ) (o n i : ℕ) → i < n → get_or (take n (drop o a)) i 0 ≡ get_or a (o + i) 0
+get_or_part a o n i h = get_or-take n (drop o a) i 0 h ∙ get_or-drop o a i 0
 
 -- a part is the list whose bytes it has
 pub part-is : (a : List ℕ) (o : ℕ) (l : List ℕ) → o + length l ≤ length a → ((i : ℕ) → i < length l → get_or a (o + i) 0 ≡ get_or l i 0)
@@ -79,7 +79,7 @@ pub part-is : (a : List ℕ) (o : ℕ) (l : List ℕ) → o + length l ≤ lengt
 part-is a o l h g =
     let e : length (take (length l) (drop o a)) ≡ length l = length_part a o (length l) h in
     ext_get_or 0 (take (length l) (drop o a)) l e
-    (λ i x. let y : i < length l = omega arith in get_d_part a o (length l) i y ∙ g i y)
+    (λ i x. let y : i < length l = omega arith in get_or_part a o (length l) i y ∙ g i y)
 
 -- a part depends only on its bytes
 pub part_agree : (d : ℕ) (a b : List ℕ) (o n : ℕ) → o + n ≤ length a → d + o + n ≤ length b → Agree d a b o (o + n)
@@ -90,4 +90,4 @@ part_agree d a b o n ha hb g =
     ext_get_or 0 (take n (drop o a)) (take n (drop (d + o) b)) (p ∙ sym q)
     (λ i x.
     let y : i < n = omega arith in
-    get_d_part a o n i y ∙ g (o + i) (omega arith) (omega arith) ∙ sym (rw (← add_assoc) (get_d_part b (d + o) n i y)))
+    get_or_part a o n i y ∙ g (o + i) (omega arith) (omega arith) ∙ sym (rw (← add_assoc) (get_or_part b (d + o) n i y)))

@@ -1,15 +1,16 @@
 -- The reading of a row: of two rows, of the bytes that it covers, and what finding an entry says of it.
+use Rattle.std.specs.Prelude.{Some}
 use mathlib.Core.Path.{◌≡◌, refl, sym, ap, ◌∙◌}
 use Prim.Native.Nat.{ℕ, ◌+◌, ◌-◌, ◌≤◌}
 use native.Mathlib.Omega.{arith}
 use native.Mathlib.Nat.{add_assoc, zero-add}
 use mathlib.Core.Bool.{Bool, true, false, not, ◌&&◌, cond}
 use mathlib.Core.List.{List, [], ◌∷◌, ◌++◌, map}
-use mathlib.Core.Option.{some}
 use lib.ListN.{length, take, drop}
 use lib.Seq.{take_at, drop_at}
 use lib.Dec.{leb, eqb}
 use borrow.Author.Tests.{ne_eqb, eqb-true, leb-true, lt-ltb, le-ltb}
+use Rattle.wire.proofs.Apart.{apart}
 use Rattle.rules.specs.declared.Entry.{Entry}
 use Rattle.rules.specs.Entries.{is_void, span, data_offset, live_count, occurrence}
 use Rattle.rules.specs.Add.{first_fit}
@@ -102,16 +103,16 @@ abbrev pub Fits : ℕ → List Entry → Entry → Type 0
 Fits n es e = Parts es e × (is_void e ≡ true) × (n ≤ e.data_size)
 
 -- the void that is taken is such a one
-pub first_fit_lem : (n : ℕ) (es : List Entry) (e : Entry) → first_fit n es ≡ some e → Fits n es e
+pub first_fit_lem : (n : ℕ) (es : List Entry) (e : Entry) → first_fit n es ≡ Some e → Fits n es e
 unfolding first_fit
-first_fit_lem n [] e h = absurd (let z : ◌≡◌ {A = ℕ} 0 1 = cc in omega arith)
+first_fit_lem n [] e h = apart cc
 first_fit_lem n (x ∷ es) e h = go (is_void x) (leb n x.data_size) refl refl h (first_fit_lem n es e)
   where
     behind : Fits n es e → Fits n (x ∷ es) e
     behind r = (parts_cons x r.0, r.1, r.2)
 
-    go : (v l : Bool) → is_void x ≡ v → leb n x.data_size ≡ l → cond (v && l) (some x) (first_fit n es) ≡ some e
-        → (first_fit n es ≡ some e → Fits n es e) → Fits n (x ∷ es) e
+    go : (v l : Bool) → is_void x ≡ v → leb n x.data_size ≡ l → cond (v && l) (Some x) (first_fit n es) ≡ Some e
+        → (first_fit n es ≡ Some e → Fits n es e) → Fits n (x ∷ es) e
     go true true hv hl k ih = let q : x ≡ e = cc in (parts_here x es e q, rw q at hv, rw q at (leb-true n x.data_size hl))
     go true false hv hl k ih = behind (ih k)
     go false l hv hl k ih = behind (ih k)
@@ -122,9 +123,9 @@ pub record Occurs (tag n : ℕ) (es : List Entry) (e : Entry) : Type 0 where
   pub taken : (a : List ℕ) → take_out tag n (live_in a es) ≡ live_in a (parts.before ++ parts.behind)
 
 -- the occurrence that is found is such a one
-pub occurs : (tag n : ℕ) (es : List Entry) (e : Entry) → (tag ≡ 0 → ⊥) → occurrence tag n es ≡ some e → Occurs tag n es e
+pub occurs : (tag n : ℕ) (es : List Entry) (e : Entry) → (tag ≡ 0 → ⊥) → occurrence tag n es ≡ Some e → Occurs tag n es e
 unfolding occurrence take_out live_in
-occurs tag n [] e ht h = absurd (let z : ◌≡◌ {A = ℕ} 0 1 = cc in omega arith)
+occurs tag n [] e ht h = apart cc
 occurs tag n (x ∷ es) e ht h = go (eqb x.tag_id tag) (eqb n 0) refl refl h (λ m. occurs tag m es e ht)
   where
     solid : eqb x.tag_id tag ≡ true → is_void x ≡ false
@@ -136,8 +137,8 @@ occurs tag n (x ∷ es) e ht h = go (eqb x.tag_id tag) (eqb n 0) refl refl h (λ
     other false a l s k = rw (s, k)
 
     go : (s z : Bool) → eqb x.tag_id tag ≡ s → eqb n 0 ≡ z
-        → cond s (cond z (some x) (occurrence tag (n - 1) es)) (occurrence tag n es) ≡ some e
-        → ((m : ℕ) → occurrence tag m es ≡ some e → Occurs tag m es e) → Occurs tag n (x ∷ es) e
+        → cond s (cond z (Some x) (occurrence tag (n - 1) es)) (occurrence tag n es) ≡ Some e
+        → ((m : ℕ) → occurrence tag m es ≡ Some e → Occurs tag m es e) → Occurs tag n (x ∷ es) e
     go true true hs hz k ih = record { parts = parts_here x es e (cc); taken = λ a. rw (solid hs, hs, hz) }
     go true false hs hz k ih =
         let r : Occurs tag (n - 1) es e = ih (n - 1) k in

@@ -10,7 +10,7 @@ use lib.Dec.{eqb}
 use lib.Bits.{bit_xor, xor_comm, xor_zero_l}
 use Rattle.wire.specs.Bytes.{field, le_bytes, xor}
 use Rattle.wire.proofs.Range.{Bytes}
-use Rattle.wire.proofs.Xor.{xor_assoc}
+use Rattle.wire.proofs.XorLaws.{xor_assoc}
 use Rattle.wire.proofs.Field.{bytes_take, field-take}
 use Rattle.rules.specs.Header.{header_of, has_checksum, with_total}
 use Rattle.rules.specs.Checksum.{checksum_holds, fresh_checksum}

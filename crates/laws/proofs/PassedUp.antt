@@ -1,22 +1,20 @@
 -- Request 8: each call's refusal 8 is its check's, with the same place, and no other answer has a place.
+use Rattle.std.specs.Prelude.{Err, None, Ok, Option, Result, Some}
+use Rattle.wire.proofs.Apart.{apart}
+use Rattle.rules.specs.declared.Extent.{Extent}
+use Rattle.rules.specs.declared.Facts.{Facts}
+use Rattle.rules.specs.declared.certificate.Uncertified.{Uncertified}
+use Rattle.rules.specs.declared.certificate.Verdict.{Verdict}
 use mathlib.Core.Path.{◌≡◌, refl, sym, ap, ◌∙◌}
 use Prim.Native.Nat.{ℕ, ◌+◌}
 use native.Mathlib.Omega.{arith}
 use mathlib.Core.Bool.{Bool, false, not, cond}
 use mathlib.Core.List.{List, [], ◌∷◌}
-use mathlib.Core.Option.{Option, none, some}
 use lib.ListN.{length}
 use lib.Dec.{ltb, eqb}
 use Rattle.rules.specs.declared.Entry.{Entry}
-use Rattle.rules.specs.declared.Checked.{Checked}
-use Rattle.rules.specs.declared.Checked.TheVariants.{Accepted, Refused}
-use Rattle.rules.specs.declared.Found.{Found}
-use Rattle.rules.specs.declared.Found.TheVariants as found
-use Rattle.rules.specs.declared.Done.{Done}
-use Rattle.rules.specs.declared.Done.TheVariants as reply
 use Rattle.rules.specs.declared.certificate.Certificate.{Certificate}
-use Rattle.rules.specs.declared.certificate.Certified.{Certified}
-use Rattle.rules.specs.declared.certificate.Certified.TheVariants as certified
+use Rattle.rules.specs.declared.certificate.Uncertified.TheVariants as uncertified
 use Rattle.rules.specs.declared.Refusal.{Refusal}
 use Rattle.rules.specs.declared.Refusal.TheVariants as refusal
 use Rattle.rules.specs.Header.{header_of}
@@ -111,24 +109,24 @@ no_place r n = go (placed r)
 
 -- ---- no other answer has a place
 
-checked_elsewhere : (x : Checked) → ((check_answer x).number ≡ 8 → ⊥) → (check_answer x).at ≡ 0
-checked_elsewhere (Accepted f) n = refl
-checked_elsewhere (Refused r) n = no_place r n
+checked_elsewhere : (x : Result Facts Refusal) → ((check_answer x).number ≡ 8 → ⊥) → (check_answer x).at ≡ 0
+checked_elsewhere (Ok f) n = refl
+checked_elsewhere (Err r) n = no_place r n
 
-found_elsewhere : (x : Found) → ((find_answer x).number ≡ 8 → ⊥) → (find_answer x).at ≡ 0
-found_elsewhere (found.At offset size) n = refl
-found_elsewhere (found.Refused r) n = no_place r n
+found_elsewhere : (x : Result Extent Refusal) → ((find_answer x).number ≡ 8 → ⊥) → (find_answer x).at ≡ 0
+found_elsewhere (Ok x) n = refl
+found_elsewhere (Err r) n = no_place r n
 
-done_elsewhere : (x : Done) → ((done_answer x).number ≡ 8 → ⊥) → (done_answer x).at ≡ 0
-done_elsewhere (reply.Value value) n = refl
-done_elsewhere (reply.Refused r) n = no_place r n
+done_elsewhere : (x : Result ℕ Refusal) → ((done_answer x).number ≡ 8 → ⊥) → (done_answer x).at ≡ 0
+done_elsewhere (Ok value) n = refl
+done_elsewhere (Err r) n = no_place r n
 
-certified_elsewhere : (x : Certified) → ((certified_answer x).number ≡ 8 → ⊥) → (certified_answer x).at ≡ 0
-certified_elsewhere (certified.Read x pass) n = refl
-certified_elsewhere (certified.Refused r) n = no_place r n
-certified_elsewhere certified.NotOne n = refl
-certified_elsewhere certified.Another n = refl
-certified_elsewhere certified.Unsound n = refl
+certified_elsewhere : (x : Result Verdict Uncertified) → ((certified_answer x).number ≡ 8 → ⊥) → (certified_answer x).at ≡ 0
+certified_elsewhere (Ok v) n = refl
+certified_elsewhere (Err (uncertified.Refused r)) n = no_place r n
+certified_elsewhere (Err uncertified.NotOne) n = refl
+certified_elsewhere (Err uncertified.Another) n = refl
+certified_elsewhere (Err uncertified.Unsound) n = refl
 
 pub zero_elsewhere : ZeroElsewhere
 zero_elsewhere =
@@ -137,20 +135,20 @@ zero_elsewhere =
 -- ---- each call's 8 is its check's
 
 -- an answer whose number is 8 is a refusal with its place
-checked_eight : (x : Checked) → (check_answer x).number ≡ 8 → x ≡ Refused (refusal.Entry (check_answer x).at)
-checked_eight (Accepted f) n = absurd (omega arith)
-checked_eight (Refused r) n = ap Refused (eight r n)
+checked_eight : (x : Result Facts Refusal) → (check_answer x).number ≡ 8 → x ≡ Err (refusal.Entry (check_answer x).at)
+checked_eight (Ok f) n = absurd (omega arith)
+checked_eight (Err r) n = ap Err (eight r n)
 
-found_eight : (x : Found) → (find_answer x).number ≡ 8 → x ≡ found.Refused (refusal.Entry (find_answer x).at)
-found_eight (found.At offset size) n = absurd (omega arith)
-found_eight (found.Refused r) n = ap found.Refused (eight r n)
+found_eight : (x : Result Extent Refusal) → (find_answer x).number ≡ 8 → x ≡ Err (refusal.Entry (find_answer x).at)
+found_eight (Ok x) n = absurd (omega arith)
+found_eight (Err r) n = ap Err (eight r n)
 
-certified_eight : (x : Certified) → (certified_answer x).number ≡ 8 → x ≡ certified.Refused (refusal.Entry (certified_answer x).at)
-certified_eight (certified.Read x pass) n = absurd (omega arith)
-certified_eight (certified.Refused r) n = ap certified.Refused (eight r n)
-certified_eight certified.NotOne n = absurd (omega arith)
-certified_eight certified.Another n = absurd (omega arith)
-certified_eight certified.Unsound n = absurd (omega arith)
+certified_eight : (x : Result Verdict Uncertified) → (certified_answer x).number ≡ 8 → x ≡ Err (uncertified.Refused (refusal.Entry (certified_answer x).at))
+certified_eight (Ok v) n = absurd (omega arith)
+certified_eight (Err (uncertified.Refused r)) n = ap (λ q. Err (uncertified.Refused q)) (eight r n)
+certified_eight (Err uncertified.NotOne) n = absurd (omega arith)
+certified_eight (Err uncertified.Another) n = absurd (omega arith)
+certified_eight (Err uncertified.Unsound) n = absurd (omega arith)
 
 done_eight : (o : Outcome) → (done_answer (answer o)).number ≡ 8 → o ≡ refused (refusal.Entry (done_answer (answer o)).at)
 done_eight (refused r) n = ap refused (eight r n)
@@ -158,49 +156,49 @@ done_eight (done value bytes) n = absurd (omega arith)
 
 module _ (at : ℕ) where
   -- what comes behind the check has no 8 of its own: then the check's answer is 8
-  from-check : (c : Checked) (x : Found) → (x ≡ found.Refused (refusal.Entry at) → ⊥) → after_check c x ≡ found.Refused (refusal.Entry at)
-      → c ≡ Refused (refusal.Entry at)
-  from-check (Accepted f) x n k = absurd (n k)
-  from-check (Refused r) x n k = let q : r ≡ refusal.Entry at = cc in ap Refused q
+  from-check : (c : Result Facts Refusal) (x : Result Extent Refusal) → (x ≡ Err (refusal.Entry at) → ⊥) → after_check c x ≡ Err (refusal.Entry at)
+      → c ≡ Err (refusal.Entry at)
+  from-check (Ok f) x n k = absurd (n k)
+  from-check (Err r) x n k = let q : r ≡ refusal.Entry at = cc in ap Err q
 
-  from_checks : (c : Checked) (x : Certified) → (x ≡ certified.Refused (refusal.Entry at) → ⊥)
-      → after_checks c x ≡ certified.Refused (refusal.Entry at) → c ≡ Refused (refusal.Entry at)
-  from_checks (Accepted f) x n k = absurd (n k)
-  from_checks (Refused r) x n k = let q : r ≡ refusal.Entry at = cc in ap Refused q
+  from_checks : (c : Result Facts Refusal) (x : Result Verdict Uncertified) → (x ≡ Err (uncertified.Refused (refusal.Entry at)) → ⊥)
+      → after_checks c x ≡ Err (uncertified.Refused (refusal.Entry at)) → c ≡ Err (refusal.Entry at)
+  from_checks (Ok f) x n k = absurd (n k)
+  from_checks (Err r) x n k = let q : r ≡ refusal.Entry at = cc in ap Err q
 
-  from_admission : (c : Checked) (x : Outcome) → (x ≡ refused (refusal.Entry at) → ⊥) → after_admission c x ≡ refused (refusal.Entry at)
-      → c ≡ Refused (refusal.Entry at)
-  from_admission (Accepted f) x n k = absurd (n k)
-  from_admission (Refused r) x n k = let q : r ≡ refusal.Entry at = cc in ap Refused q
+  from_admission : (c : Result Facts Refusal) (x : Outcome) → (x ≡ refused (refusal.Entry at) → ⊥) → after_admission c x ≡ refused (refusal.Entry at)
+      → c ≡ Err (refusal.Entry at)
+  from_admission (Ok f) x n k = absurd (n k)
+  from_admission (Err r) x n k = let q : r ≡ refusal.Entry at = cc in ap Err q
 
   -- no refusal of find's own is 8
-  find_own : (tag : ℕ) (o : Option Entry) → cond (refuses_tag tag) (found.Refused refusal.Tag) (found_at o) ≡ found.Refused (refusal.Entry at) → ⊥
-  find_own tag o k = go o (past (refuses_tag tag) _ _ _ (λ e. (let z : ◌≡◌ {A = ℕ} 0 1 = cc in omega arith)) k).1
+  find_own : (tag : ℕ) (o : Option Entry) → cond (refuses_tag tag) (Err refusal.Tag) (found_at o) ≡ Err (refusal.Entry at) → ⊥
+  find_own tag o k = go o (past (refuses_tag tag) _ _ _ (λ e. (apart cc)) k).1
     where
-      go : (o : Option Entry) → found_at o ≡ found.Refused (refusal.Entry at) → ⊥
-      go (some e) q = (let z : ◌≡◌ {A = ℕ} 0 1 = cc in omega arith)
-      go none q = (let z : ◌≡◌ {A = ℕ} 0 1 = cc in omega arith)
+      go : (o : Option Entry) → found_at o ≡ Err (refusal.Entry at) → ⊥
+      go (Some e) q = apart cc
+      go None q = apart cc
 
   -- none of the certificate's
-  certificate_own : (a : List ℕ) (serial test : ℕ) (es : List Entry) → certified_in a serial test es ≡ certified.Refused (refusal.Entry at) → ⊥
+  certificate_own : (a : List ℕ) (serial test : ℕ) (es : List Entry) → certified_in a serial test es ≡ Err (uncertified.Refused (refusal.Entry at)) → ⊥
   unfolding judged
-  certificate_own a serial test [] k = (let z : ◌≡◌ {A = ℕ} 0 1 = cc in omega arith)
+  certificate_own a serial test [] k = apart cc
   certificate_own a serial test (e ∷ []) k =
       let c : Certificate = certificate_of (live_at a e).content in
-      let p = past (not (eqb e.data_size certificate_size)) _ _ _ (λ q. (let z : ◌≡◌ {A = ℕ} 0 1 = cc in omega arith)) k in
-      let p₂ = past (refuses_identity serial test c) _ _ _ (λ q. (let z : ◌≡◌ {A = ℕ} 0 1 = cc in omega arith)) p.1 in
-      let p₃ = past (refuses_contents c) _ _ _ (λ q. (let z : ◌≡◌ {A = ℕ} 0 1 = cc in omega arith)) p₂.1 in
+      let p = past (not (eqb e.data_size certificate_size)) _ _ _ (λ q. (apart cc)) k in
+      let p₂ = past (refuses_identity serial test c) _ _ _ (λ q. (apart cc)) p.1 in
+      let p₃ = past (refuses_contents c) _ _ _ (λ q. (apart cc)) p₂.1 in
       let q = p₃.1 in
       let z : ◌≡◌ {A = ℕ} 0 1 = cc in
       omega arith
-  certificate_own a serial test (e ∷ f ∷ es) k = (let z : ◌≡◌ {A = ℕ} 0 1 = cc in omega arith)
+  certificate_own a serial test (e ∷ f ∷ es) k = apart cc
 
   -- a refusal of another number, and what is done, are not it
   another : (r : Refusal) → (number_of r ≡ 8 → ⊥) → refused r ≡ refused (refusal.Entry at) → ⊥
   another r n k = let q : r ≡ refusal.Entry at = cc in n (ap number_of q)
 
   not_done : (value : ℕ) (bytes : List ℕ) → done value bytes ≡ refused (refusal.Entry at) → ⊥
-  not_done value bytes k = (let z : ◌≡◌ {A = ℕ} 0 1 = cc in omega arith)
+  not_done value bytes k = apart cc
 
   -- an act that has one test left, for ROOM
   room_own : (b : Bool) (value : ℕ) (bytes : List ℕ) → cond b (refused refusal.Room) (done value bytes) ≡ refused (refusal.Entry at) → ⊥
@@ -209,12 +207,12 @@ module _ (at : ℕ) where
   -- none of an edit's
   add_own : (a : List ℕ) (tag : ℕ) (content : List ℕ) (o : Option Entry) → add_at a tag content o ≡ refused (refusal.Entry at) → ⊥
   unfolding add_in_void add_at_end
-  add_own a tag content (some e) k = not_done _ _ k
-  add_own a tag content none k = room_own (ltb (room a) (entry_span (length content))) _ _ k
+  add_own a tag content (Some e) k = not_done _ _ k
+  add_own a tag content None k = room_own (ltb (room a) (entry_span (length content))) _ _ k
 
   void_own : (a : List ℕ) (o : Option Entry) → void_at a o ≡ refused (refusal.Entry at) → ⊥
-  void_own a (some e) k = not_done _ _ k
-  void_own a none k = another refusal.None (λ n. omega arith) k
+  void_own a (Some e) k = not_done _ _ k
+  void_own a None k = another refusal.None (λ n. omega arith) k
 
   act_own : (e : Edit) (a : List ℕ) (base : ℕ) → act e a base ≡ refused (refusal.Entry at) → ⊥
   unfolding add add_aligned add_aligned_at_end void relocate move_to tidy

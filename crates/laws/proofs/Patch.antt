@@ -11,7 +11,7 @@ use lib.Bits.{bit_xor, xor_comm, xor_zero_l}
 use borrow.Author.Tests.{eqb-true}
 use Rattle.wire.specs.Bytes.{field, le_bytes, xor, splice}
 use Rattle.wire.proofs.Range.{Bytes}
-use Rattle.wire.proofs.Xor.{xor_assoc, xor-splice}
+use Rattle.wire.proofs.XorLaws.{xor_assoc, xor-splice}
 use Rattle.wire.proofs.Splice.{take-splice-within, drop-splice, length-splice, splice_comm}
 use Rattle.wire.proofs.Field.{bytes_take, bytes-splice, bytes-le_bytes, length-le_bytes, field_lt, field-take, field-splice_same}
 use Rattle.rules.specs.Header.{header_of, has_checksum, with_alignment, with_used}

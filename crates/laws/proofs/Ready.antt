@@ -1,4 +1,5 @@
 -- A list that is ready to be sealed: everything that an accepted version 1 list keeps to, but for the checksum.
+use Rattle.std.specs.Prelude.{Ok}
 use mathlib.Core.Path.{◌≡◌, refl, sym, ap, ◌∙◌, subst}
 use Prim.Native.Nat.{ℕ, ◌%◌, ◌≤◌}
 use native.Mathlib.Omega.{arith}
@@ -8,7 +9,6 @@ use lib.ListN.{length}
 use Rattle.rules.specs.Area.{max_alignment}
 use Rattle.rules.specs.declared.Entry.{Entry}
 use Rattle.rules.specs.declared.Facts.{Facts}
-use Rattle.rules.specs.declared.Checked.TheVariants.{Accepted}
 use Rattle.rules.specs.Header.{header_of, header_size, signature, current_version, least_alignment}
 use Rattle.rules.specs.Edition.{Edition, current}
 use Rattle.rules.specs.Entries.{entries, walk_from, first_entry, walk, entries_of}
@@ -71,7 +71,7 @@ module _ (a : List ℕ) (base : ℕ) where
   pub ready_of : AcceptedV1 a base → Ready a base (entries_of a)
   ready_of h =
       let s : Sound current a base = (sound current false a base h.facts h.accepted).0 in
-      let k : Accepted h.facts ≡ Accepted (facts_of (header_of a) s.row) =
+      let k : Ok h.facts ≡ Ok (facts_of (header_of a) s.row) =
       sym h.accepted ∙ accepts current false a base s (λ e. absurd_bool (sym e)) in
       let f : h.facts ≡ facts_of (header_of a) s.row = cc in
       ready_sound s (sym (ap (λ (x : Facts). x.version) f) ∙ h.version)

@@ -9,6 +9,7 @@ use mathlib.Core.List.{List, [], ◌∷◌, ◌++◌, map}
 use lib.ListN.{get_or}
 use lib.Dec.{ltb, eqb}
 use borrow.Author.Tests.{eq-eqb, eqb-true, le-ltb, not-false}
+use Rattle.wire.proofs.Apart.{apart}
 use Rattle.wire.specs.Bytes.{field}
 use Rattle.wire.proofs.Field.{field_cong}
 use Rattle.rules.specs.declared.Entry.{Entry}
@@ -19,7 +20,7 @@ use Rattle.laws.proofs.Walk.{neither, walk_end, walk-next, Unbroken, ends, goes,
 
 -- a test does not both hold and fail
 pub absurd_bool : {A : Type 0} → true ≡ false → A
-absurd_bool h = absurd (let z : ◌≡◌ {A = ℕ} 0 1 = cc in omega arith)
+absurd_bool h = apart cc
 
 -- a header size that is not wrong in version 1 is `own`
 pub exact : (version own size : ℕ) → version ≡ 1 → wrong_header_size version own size ≡ false → size ≡ own

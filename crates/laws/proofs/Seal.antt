@@ -10,7 +10,7 @@ use lib.Dec.{eqb}
 use lib.Bits.{bit_xor, xor_self, xor_zero_r}
 use borrow.Author.Tests.{eq-eqb}
 use Rattle.wire.specs.Bytes.{field, xor}
-use Rattle.wire.proofs.Xor.{xor-append, xor_assoc}
+use Rattle.wire.proofs.XorLaws.{xor-append, xor_assoc}
 use Rattle.wire.proofs.Field.{field-append}
 use Rattle.rules.specs.Header.{header_of, checksum_at}
 use Rattle.rules.specs.Checksum.{checksum_holds, without, fresh_checksum, seal}

@@ -1,12 +1,13 @@
 -- The walk's equations: what stands at a place, without the count of steps.
+use Rattle.std.specs.Prelude.{Some}
 use mathlib.Core.Path.{◌≡◌, refl, ap, subst, ◌∙◌}
 use Prim.Native.Nat.{ℕ, zero, suc, ◌+◌, ◌-◌, ◌≤◌, ◌<◌}
 use native.Mathlib.Omega.{arith}
 use mathlib.Core.Bool.{Bool, true, false, not, ◌&&◌, ◌||◌, cond}
 use mathlib.Core.List.{List, [], ◌∷◌}
-use mathlib.Core.Option.{some}
 use lib.Dec.{ltb, eqb}
 use borrow.Author.Tests.{eq-eqb, ne_eqb, eqb-true, ltb-false}
+use Rattle.wire.proofs.Apart.{apart}
 use Rattle.rules.specs.declared.Entry.{Entry}
 use Rattle.rules.specs.Header.{entry_header_size}
 use Rattle.rules.specs.Entries.{
@@ -27,7 +28,7 @@ use Rattle.rules.specs.Entries.{
 
 -- neither of two tests holds
 pub neither : (x y : Bool) → (x || y) ≡ false → (x ≡ false) × (y ≡ false)
-neither true y h = absurd (let z : ◌≡◌ {A = ℕ} 0 1 = cc in omega arith)
+neither true y h = apart cc
 neither false y h = (refl, h)
 
 -- a header size that is not wrong is at least `own`
@@ -36,7 +37,7 @@ header-least version own size h = go (eqb version 1) (eqb size own) refl refl h
   where
     go : (v s : Bool) → eqb version 1 ≡ v → eqb size own ≡ s → (v && not s || not v && ltb size own) ≡ false → own ≤ size
     go true true p q k = omega (arith, eqb-true size own q)
-    go true false p q k = absurd (let z : ◌≡◌ {A = ℕ} 0 1 = cc in omega arith)
+    go true false p q k = apart cc
     go false s p q k = ltb-false size own k
 
 -- what an entry that breaks no rule keeps to
@@ -133,14 +134,14 @@ pub record Inside (first used : ℕ) (e : Entry) : Type 0 where
 
 module _ (P : Entry → Type 0) where
   -- what holds of every entry holds of each occurrence
-  pub occurrence-inside : (tag n : ℕ) (es : List Entry) (e : Entry) → All P es → occurrence tag n es ≡ some e → P e
+  pub occurrence-inside : (tag n : ℕ) (es : List Entry) (e : Entry) → All P es → occurrence tag n es ≡ Some e → P e
   unfolding occurrence
-  occurrence-inside tag n [] e h o = absurd (let z : ◌≡◌ {A = ℕ} 0 1 = cc in omega arith)
+  occurrence-inside tag n [] e h o = apart cc
   occurrence-inside tag n (x ∷ es) e h o =
       go (eqb x.tag_id tag) (eqb n 0) (occurrence-inside tag (n - 1) es e h.1) (occurrence-inside tag n es e h.1) o
     where
-      go : (t z : Bool) → (occurrence tag (n - 1) es ≡ some e → P e) → (occurrence tag n es ≡ some e → P e)
-          → cond t (cond z (some x) (occurrence tag (n - 1) es)) (occurrence tag n es) ≡ some e → P e
+      go : (t z : Bool) → (occurrence tag (n - 1) es ≡ Some e → P e) → (occurrence tag n es ≡ Some e → P e)
+          → cond t (cond z (Some x) (occurrence tag (n - 1) es)) (occurrence tag n es) ≡ Some e → P e
       go true true f g k = let q : x ≡ e = cc in subst P q h.0
       go true false f g k = f k
       go false z f g k = g k
@@ -165,7 +166,7 @@ module _ (version : ℕ) (a : List ℕ) (used : ℕ) where
     where
       go : (b : Bool) → eqb at used ≡ b → cond b (entries []) (broken at) ≡ entries row → Unbroken version a used at row
       go true h p = ended at row h p
-      go false h p = absurd (let z : ◌≡◌ {A = ℕ} 0 1 = cc in omega arith)
+      go false h p = apart cc
   unbroken_in (suc n) at row k =
       go (eqb at used) (bad_entry version (used - at) (entry_at a at)) (walk_in n version a used (next a at)) refl refl
       (λ es. unbroken_in n (next a at) es) k
@@ -174,8 +175,8 @@ module _ (version : ℕ) (a : List ℕ) (used : ℕ) where
           → ((es : List Entry) → w ≡ entries es → Unbroken version a used (next a at) es)
           → cond b (entries []) (cond c (broken at) (follow (entry_at a at) w)) ≡ entries row → Unbroken version a used at row
       go true c w h e f p = ended at row h p
-      go false true w h e f p = absurd (let z : ◌≡◌ {A = ℕ} 0 1 = cc in omega arith)
-      go false false (broken x) h e f p = absurd (let z : ◌≡◌ {A = ℕ} 0 1 = cc in omega arith)
+      go false true w h e f p = apart cc
+      go false false (broken x) h e f p = apart cc
       go false false (entries es) h e f p =
           let q : entry_at a at ∷ es ≡ row = cc in
           subst (Unbroken version a used at) q (goes e (f es refl))

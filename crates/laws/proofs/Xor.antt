@@ -10,7 +10,7 @@ use lib.Seq.{split_at}
 use lib.Bits.{bit_xor, xor_comm, xor_self, xor_zero_l, xor_zero_r}
 use Rattle.wire.specs.Bytes.{field, le_bytes, xor, splice}
 use Rattle.wire.proofs.Range.{Bytes}
-use Rattle.wire.proofs.Xor.{xor_assoc, xor-append, xor-splice}
+use Rattle.wire.proofs.XorLaws.{xor_assoc, xor-append, xor-splice}
 use Rattle.wire.proofs.Field.{length-le_bytes, le_bytes-field}
 use Rattle.rules.specs.Checksum.{without}
 

@@ -2,20 +2,18 @@
 use mathlib.Core.Path.{◌≡◌, refl, sym, ap, subst, ◌∙◌}
 use Prim.Native.Nat.{ℕ, ◌+◌, ◌-◌, ◌≤◌, ◌<◌}
 use native.Mathlib.Omega.{arith}
-use mathlib.Core.Bool.{Bool, true, false, ◌&&◌, false≢true}
+use mathlib.Core.Bool.{Bool, true}
 use mathlib.Core.List.{List, [], ◌∷◌, ◌++◌, map}
 use lib.ListN.{length, get_or, drop}
-use lib.Dec.{eqb}
-use borrow.Author.Tests.{eqb-true, eq-eqb}
 use Rattle.rules.specs.declared.FindAnswer.{FindAnswer}
 use Rattle.devicetree.specs.declared.header.Header.{Header}
 use Rattle.devicetree.specs.Header.{cell, header_of, headed}
 use Rattle.devicetree.specs.Structure.{Property, Node, node, Members, property, subnode, close}
 use Rattle.devicetree.specs.Tree.{structure_of, strings_of, Tree}
-use Rattle.devicetree.proofs.Deciding.{both}
 use Rattle.devicetree.proofs.TreeLaws.{order, structure-length}
+use Rattle.std.proofs.Common.{Option, Some, None}
 use Rattle.lookup.specs.declared.seek.Hit.{Hit}
-use Rattle.lookup.specs.declared.seek.Hit.TheVariants.{Found, After, Broken}
+use Rattle.lookup.specs.declared.seek.Hit.TheVariants.{Found, After}
 use Rattle.lookup.specs.Lookup.{
   part,
   slash,
@@ -93,16 +91,14 @@ names-below path h f = record { to = λ names p. go p; from = λ names n. back r
 names-long : {path : List ℕ} {c : List ℕ} {cs : List (List ℕ)} → Names path (c ∷ cs) → 0 < length path
 names-long (next u p r) = let l = ap length u in omega arith
 
--- by the test of both
-pub names_tested : (path : List ℕ) → (eqb (length path) 1 && eqb (get_or path 0 0) slash) ≡ true → SameNames path (part path 1 (length path - 1))
+-- by whether the path is one slash
+pub names_tested : (path : List ℕ) → path ≡ slash ∷ [] → SameNames path (part path 1 (length path - 1))
 names_tested path e =
-    let t = both (eqb (length path) 1) (eqb (get_or path 0 0) slash) e in
-    let one = eqb-true (length path) 1 t.0 in
-    subst (SameNames path) (sym (nothing_left path one)) (names-root one (eqb-true (get_or path 0 0) slash t.1))
+    let t = one_slash e in
+    subst (SameNames path) (sym (nothing_left path t.0)) (names-root t.0 t.1)
 
-pub names_tested_other : (path : List ℕ) → 0 < length path → (eqb (length path) 1 && eqb (get_or path 0 0) slash) ≡ false → SameNames path path
-names_tested_other path h e =
-    names-below path h (λ x. false≢true (sym e ∙ simp (eq-eqb (length path) 1 x.0, eq-eqb (get_or path 0 0) slash x.1)))
+pub names_tested_other : (path : List ℕ) → 0 < length path → (path ≡ slash ∷ [] → ⊥) → SameNames path path
+names_tested_other path h f = names-below path h (λ x. f (one_byte path x.0 x.1))
 
 pub no_path : {path : List ℕ} {names : List (List ℕ)} → length path ≡ 0 → Path path names → ⊥
 no_path h (root u) = let l = ap length u in omega arith
@@ -114,12 +110,8 @@ no_path h (below n) = let l = names-long n in omega arith
 pub tree_headed : {d : List ℕ} {h : Header} → Tree d → h ≡ header_of d → headed h (length d) ≡ true
 tree_headed {d} x e = subst (λ (i : Header). headed i (length d) ≡ true) (sym e) x.blocks.header
 
--- the structure's offset is within it
-pub structure-starts : {d s : List ℕ} {h : Header} → Tree d → h ≡ header_of d → s ≡ structure_of d h → h.off_dt_struct ≤ length s
-structure-starts {d} {h = h} x e es = let l = ap length es ∙ structure-length d h (tree_headed x e) in omega arith
-
 module _ {d path name rest : List ℕ} (X : Tree d) {h : Header} (e : h ≡ header_of d) {s t : List ℕ} (es : s ≡ structure_of d h) (et : t ≡ strings_of d h)
-    (N : SameNames path rest) {r : Hit} (S : SeeksRoot s t h.off_dt_struct rest name r) where
+    (N : SameNames path rest) {r : Option Hit} (S : SeeksRoot s t h.off_dt_struct rest name r) where
   searched : SeeksRoot (structure_of d (header_of d)) (strings_of d (header_of d)) (header_of d).off_dt_struct rest name r
   searched =
       let a = subst (λ (i : List ℕ). SeeksRoot i t h.off_dt_struct rest name r) es S in
@@ -130,13 +122,13 @@ module _ {d path name rest : List ℕ} (X : Tree d) {h : Header} (e : h ≡ head
   every : (names : List (List ℕ)) → Path path names → (x : Tree d) → Looks (Wanted names name) x.blocks.structure.n (properties x) r
   every names p x = searched.finds names (N.to names p) x.blocks.structure.n x.blocks.structure.root
 
-  pub lookup_after : {k : ℕ} → r ≡ After k → Lookup d path name (refused_with 13)
+  pub lookup_after : {k : ℕ} → r ≡ Some (After k) → Lookup d path name (refused_with 13)
   lookup_after R = none X (λ names p x. (looks_after (every names p x) R).1)
 
-  pub lookup_broken : r ≡ Broken → Lookup d path name (refused_with 13)
+  pub lookup_broken : r ≡ None → Lookup d path name (refused_with 13)
   lookup_broken R = none X (λ names p x. absurd (looks_broken (every names p x) R))
 
-  pub lookup_there : {o z : ℕ} → r ≡ Found o z → Lookup d path name (found_at o z)
+  pub lookup_there : {o z : ℕ} → r ≡ Some (Found o z) → Lookup d path name (found_at o z)
   lookup_there {o} {z} R =
       let n = S.named o z R in
       let p = N.from n.names n.are in

@@ -3,8 +3,9 @@ use mathlib.Core.Path.{◌≡◌, sym, subst, ◌∙◌}
 use Prim.Native.Nat.{ℕ}
 use native.Mathlib.Omega.{arith}
 use mathlib.Core.List.{List, [], ◌∷◌, ◌++◌, map}
+use Rattle.std.proofs.Common.{Option, Some, None}
 use Rattle.lookup.specs.declared.seek.Hit.{Hit}
-use Rattle.lookup.specs.declared.seek.Hit.TheVariants.{Found, After, Broken}
+use Rattle.lookup.specs.declared.seek.Hit.TheVariants.{Found, After}
 use Rattle.lookup.specs.Lookup.{Item, within, Wanted, First, here, later, Without, nothing, other}
 use Rattle.lookup.specs.Search.{Looks, found, after}
 
@@ -21,26 +22,26 @@ module _ {P : Item → Type 0} where
   first-behind ys nothing l = l
   first-behind ys (other f v) l = later f (first-behind ys v l)
 
-  pub looks_append : {n m o z : ℕ} {xs : List Item} (ys : List Item) {r : Hit} → Looks P n xs r → r ≡ Found o z
-      → Looks P m (xs ++ ys) (Found o z)
+  pub looks_append : {n m o z : ℕ} {xs : List Item} (ys : List Item) {r : Option Hit} → Looks P n xs r → r ≡ Some (Found o z)
+      → Looks P m (xs ++ ys) (Some (Found o z))
   looks_append {m = m} {xs = xs} ys (found l) e = subst (Looks P m (xs ++ ys)) e (found (first-append ys l))
   looks_append ys (after w) e = absurd (let z : ◌≡◌ {A = ℕ} 0 1 = cc in omega arith)
 
-  pub looks_behind : {n : ℕ} {xs : List Item} (ys : List Item) {r : Hit} → Without P xs → Looks P n ys r → Looks P n (xs ++ ys) r
+  pub looks_behind : {n : ℕ} {xs : List Item} (ys : List Item) {r : Option Hit} → Without P xs → Looks P n ys r → Looks P n (xs ++ ys) r
   looks_behind ys w (found l) = found (first-behind ys w l)
   looks_behind ys w (after v) = after (without-append ys w v)
 
   -- ---- what a search's answer tells
 
-  pub looks_broken : {n : ℕ} {xs : List Item} {r : Hit} → Looks P n xs r → r ≡ Broken → ⊥
+  pub looks_broken : {n : ℕ} {xs : List Item} {r : Option Hit} → Looks P n xs r → r ≡ None → ⊥
   looks_broken (found l) e = let z : ◌≡◌ {A = ℕ} 0 1 = cc in omega arith
   looks_broken (after w) e = let z : ◌≡◌ {A = ℕ} 0 1 = cc in omega arith
 
-  pub looks_after : {n k : ℕ} {xs : List Item} {r : Hit} → Looks P n xs r → r ≡ After k → (n ≡ k) × Without P xs
+  pub looks_after : {n k : ℕ} {xs : List Item} {r : Option Hit} → Looks P n xs r → r ≡ Some (After k) → (n ≡ k) × Without P xs
   looks_after (found l) e = absurd (let z : ◌≡◌ {A = ℕ} 0 1 = cc in omega arith)
   looks_after (after w) e = (cc, w)
 
-  pub looks_found : {n o z : ℕ} {xs : List Item} {r : Hit} → Looks P n xs r → r ≡ Found o z → First P o z xs
+  pub looks_found : {n o z : ℕ} {xs : List Item} {r : Option Hit} → Looks P n xs r → r ≡ Some (Found o z) → First P o z xs
   looks_found {o = o} {z = z} {xs = xs} (found {o = o'} {z = z'} l) e =
       let a : o' ≡ o = cc in
       let b : z' ≡ z = cc in
@@ -74,7 +75,7 @@ module _ {P Q : Item → Type 0} (c : List ℕ) where
   first-within f g (later {y = y} h l) = later (λ q. h (f y q)) (first-within f g l)
 
   -- a search's answer inside a node is that outside it
-  pub looks_within : ((i : Item) → Q (within c i) → P i) → ((i : Item) → P i → Q (within c i)) → {n : ℕ} {xs : List Item} {r : Hit}
+  pub looks_within : ((i : Item) → Q (within c i) → P i) → ((i : Item) → P i → Q (within c i)) → {n : ℕ} {xs : List Item} {r : Option Hit}
       → Looks P n xs r → Looks Q n (map (within c) xs) r
   looks_within f g (found l) = found (first-within f g l)
   looks_within f g (after w) = after (without-within f w)

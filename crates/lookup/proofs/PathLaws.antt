@@ -5,26 +5,38 @@ use native.Mathlib.Omega.{arith}
 use mathlib.Core.List.{List, [], ◌∷◌, ◌++◌}
 use lib.ListN.{length, get_or, take, drop, length-append, take-append-drop, length-drop, get_or-append}
 use lib.Seq.{get_or-take, length-take-le, take-length, take-append_seam, drop-append_seam, get_or-append-add}
-use Rattle.devicetree.specs.declared.bytes.Place.{Place}
-use Rattle.devicetree.specs.declared.bytes.Place.TheVariants.{At, Nowhere}
+use mathlib.Core.Bool.{Bool}
+use lib.Dec.{eqb}
+use Rattle.std.specs.Cmp.Lexicographic.{pointwise}
+use Rattle.std.proofs.Common.{Option, Some, None}
+use Rattle.std.proofs.lemmas.Bool.Decides.{Decides-eqb}
+use Rattle.std.proofs.lemmas.Slice.Eq.{slice_eq-Decides}
 use Rattle.devicetree.specs.Structure.{Ends}
 use Rattle.devicetree.specs.Decided.{Answers, Decides}
-use Rattle.devicetree.proofs.Deciding.{decided, holds, only, never, answers_same}
+use Rattle.devicetree.proofs.Deciding.{holds, only, never, answers_test, answers_same}
 use Rattle.lookup.specs.Lookup.{part, slash, PathName, Names, ended, next}
-use Rattle.lookup.specs.Search.{Named, PartEnd, Enters}
+use Rattle.lookup.specs.Search.{Named, PartEnd}
 
 -- ---- names in the data
 
-module _ {block : List ℕ} {at : ℕ} {r : Place} (D : Decides (Ends block at) r) where
-  pub unnamed : r ≡ Nowhere → (w : List ℕ) → Named block at w → ⊥
+module _ {block : List ℕ} {at : ℕ} {r : Option ℕ} (D : Decides (Ends block at) r) where
+  pub unnamed : r ≡ None → (w : List ℕ) → Named block at w → ⊥
   unnamed e w x = never D e x.z x.ends
 
-  pub named_same : {z : ℕ} {w : List ℕ} {b : _} → r ≡ At z → Answers (part block at (z - at) ≡ w) b → Answers (Named block at w) b
+  pub named_same : {z : ℕ} {w : List ℕ} {b : _} → r ≡ Some z → Answers (part block at (z - at) ≡ w) b → Answers (Named block at w) b
   named_same {z} {w} e a =
       answers_same
       (λ x. record { z = z; ends = holds D e; is = x })
       (λ x. ap (λ (y : ℕ). part block at (y - at)) (sym (only D e x.z x.ends)) ∙ x.is)
       a
+
+-- a name ends in its block
+pub ends-between : {block : List ℕ} {at z : ℕ} → Ends block at z → (at ≤ z) × (z ≤ length block)
+ends-between x = let i = x.inside in (x.from, omega arith)
+
+-- by the library's `==`
+pub same_answers : {a b : List ℕ} {r : Bool} → r ≡ pointwise eqb a b → Answers (a ≡ b) r
+same_answers {a} {b} {r} e = let d = slice_eq-Decides Decides-eqb a b r e in answers_test r d.0 d.1
 
 -- ---- where a path's part ends
 
@@ -141,21 +153,3 @@ part-name (y ∷ l) e x h =
 pub cut-names : {path : List ℕ} {e : ℕ} {cs : List (List ℕ)} → get_or path 0 0 ≡ slash → PartEnd path e → 1 < e → Names (drop e path) cs
     → Names path (part path 1 (e - 1) ∷ cs)
 cut-names {path} {e} s x h r = next (cut_path path e s x.inside x.from) (part-name path e x h) r
-
--- ---- a path that goes on with a node's name
-
-module _ {s : List ℕ} {at : ℕ} {path : List ℕ} where
-  pub enters_ended : length path ≡ 0 → (e : ℕ) → Enters s at path e → ⊥
-  enters_ended h e x = let a = x.to.from in let i = x.to.inside in omega arith
-
-  module _ {e : ℕ} (p : PartEnd path e) where
-    pub enters_empty : e ≡ 1 → (f : ℕ) → Enters s at path f → ⊥
-    enters_empty h f x = let q = part-end-only p x.to in let i = x.some in omega arith
-
-    pub enters_other : (Named s at (part path 1 (e - 1)) → ⊥) → (f : ℕ) → Enters s at path f → ⊥
-    enters_other g f x = g (subst (λ (i : ℕ). Named s at (part path 1 (i - 1))) (part-end-only p x.to) x.named)
-
-    pub enters_found : get_or path 0 0 ≡ slash → (e ≡ 1 → ⊥) → Named s at (part path 1 (e - 1)) → Decides (Enters s at path) (At e)
-    enters_found h g n =
-        let a = p.from in
-        decided e (record { starts = h; to = p; some = omega arith; named = n }) (λ f x. part-end-only p x.to)

@@ -5,12 +5,11 @@ use native.Mathlib.Omega.{arith}
 use mathlib.Core.Bool.{Bool, true, false}
 use mathlib.Core.List.{List, [], ◌∷◌, ◌++◌}
 use lib.ListN.{length, drop}
-use Rattle.devicetree.specs.declared.bytes.Place.{Place}
-use Rattle.devicetree.specs.declared.bytes.Place.TheVariants.{At, Nowhere}
-use Rattle.devicetree.specs.declared.tokens.Next.{Next}
-use Rattle.devicetree.specs.declared.tokens.Next.TheVariants.{Is}
+use Rattle.std.proofs.Common.{Option, Some, None}
+use Rattle.devicetree.specs.declared.tokens.Kind.{Kind}
+use Rattle.devicetree.specs.declared.tokens.Kind.TheVariants.{BeginNode, EndNode, Prop}
 use Rattle.devicetree.specs.Header.{cell}
-use Rattle.devicetree.specs.Structure.{Token, Ends, Name, Value, Property, Node, node, Members, property, subnode, close, begin_node, end_node, prop}
+use Rattle.devicetree.specs.Structure.{Token, Ends, Name, Value, Property, Node, node, Members, property, subnode, close, begin_node}
 use Rattle.devicetree.specs.Decided.{Answers, Decides, DecidesToken}
 use Rattle.devicetree.proofs.Deciding.{holds, only, never, answers_same}
 use Rattle.devicetree.proofs.TokenLaws.{token_only}
@@ -18,7 +17,7 @@ use Rattle.devicetree.proofs.PartLaws.{ends-only, name-bounds}
 use Rattle.devicetree.proofs.NodeLaws.{node-unnamed}
 use Rattle.devicetree.specs.Tree.{Root, deepest}
 use Rattle.lookup.specs.declared.seek.Hit.{Hit}
-use Rattle.lookup.specs.declared.seek.Hit.TheVariants.{Found, After, Broken}
+use Rattle.lookup.specs.declared.seek.Hit.TheVariants.{Found, After}
 use Rattle.lookup.specs.Lookup.{
   part,
   Names,
@@ -53,14 +52,14 @@ use Rattle.lookup.proofs.ItemLaws.{
 -- ---- items by the first token
 
 -- what members up to n are whose first token is k, up to a, with their items
-pub data FirstItems (s t : List ℕ) (p : Bool) (d k a n : ℕ) (items : List Item) : Type 0 where
-  a-property : k ≡ prop → (m : ℕ) (v : Property s t a m) (w : Members s t p d m n) → items ≡ item_at s t a m v ∷ member_items w
+pub data FirstItems (s t : List ℕ) (p : Bool) (d : ℕ) (k : Kind) (a n : ℕ) (items : List Item) : Type 0 where
+  a-property : k ≡ Prop → (m : ℕ) (v : Property s t a m) (w : Members s t p d m n) → items ≡ item_at s t a m v ∷ member_items w
       → FirstItems s t p d k a n items
-  a-subnode : k ≡ begin_node → (m : ℕ) (v : Node s t d a m) (w : Members s t false d m n) → items ≡ node_items v ++ member_items w
+  a-subnode : k ≡ BeginNode → (m : ℕ) (v : Node s t d a m) (w : Members s t false d m n) → items ≡ node_items v ++ member_items w
       → FirstItems s t p d k a n items
-  a-close : k ≡ end_node → n ≡ a → items ≡ [] → FirstItems s t p d k a n items
+  a-close : k ≡ EndNode → n ≡ a → items ≡ [] → FirstItems s t p d k a n items
 
-pub first_items : {s t : List ℕ} {at : ℕ} {r : Next} → DecidesToken s at r → {k a : ℕ} → r ≡ Is k a → {p : Bool} {d n : ℕ}
+pub first_items : {s t : List ℕ} {at : ℕ} {r : Option (Kind × ℕ)} → DecidesToken s at r → {k : Kind} {a : ℕ} → r ≡ Some (k, a) → {p : Bool} {d n : ℕ}
     (x : Members s t p d at n) → FirstItems s t p d k a n (member_items x)
 unfolding member_items
 first_items {s} {t} T {k} q {p} {d} {n} (property {m = m} e x v w) =
@@ -77,7 +76,7 @@ first_items T q (close x) = let y = token_only T q x (λ g. omega arith) in a-cl
 pub record Left (s t : List ℕ) (d p n : ℕ) (W : Item → Type 0) (items : List Item) : Type 0 where
   pub flag : Bool
   pub rest : Members s t flag d p n
-  pub answers : (r : Hit) → Looks W n (member_items rest) r → Looks W n items r
+  pub answers : (r : Option Hit) → Looks W n (member_items rest) r → Looks W n items r
 
 -- whatever the names and the derivation, what is left from p on answers for what was there from a place on
 abbrev pub Goes : (s t : List ℕ) (d at p : ℕ) (path name : List ℕ) → Type 0
@@ -100,16 +99,16 @@ goes_on g step names R n x =
     record { flag = y.flag; rest = y.rest; answers = λ r u. l.answers r (y.answers r u) }
 
 -- what an end makes of it: the answer
-abbrev pub Answered : (s t : List ℕ) (d p : ℕ) (path name : List ℕ) (r : Hit) → Type 0
+abbrev pub Answered : (s t : List ℕ) (d p : ℕ) (path name : List ℕ) (r : Option Hit) → Type 0
 Answered s t d p path name r =
     (names : List (List ℕ)) → Names path names → (f : Bool) (n : ℕ) (x : Members s t f d p n) → Looks (Wanted names name) n (member_items x) r
 
 module _ {s t : List ℕ} {d at p : ℕ} {path name : List ℕ} (g : Goes s t d at p path name) where
-  answered : {r : Hit} → Answered s t d p path name r → (names : List (List ℕ)) → Names path names → (n : ℕ) (m : Members s t true d at n)
+  answered : {r : Option Hit} → Answered s t d p path name r → (names : List (List ℕ)) → Names path names → (n : ℕ) (m : Members s t true d at n)
       → Looks (Wanted names name) n (member_items m) r
   answered {r} h names R n m = let l = g names R n m in l.answers r (h names R l.flag n l.rest)
 
-  pub seeks_broken : Answered s t d p path name Broken → SeeksMembers s t d at path name Broken
+  pub seeks_broken : Answered s t d p path name None → SeeksMembers s t d at path name None
   seeks_broken h =
       record {
         finds = answered h;
@@ -117,7 +116,7 @@ module _ {s t : List ℕ} {d at p : ℕ} {path name : List ℕ} (g : Goes s t d 
         behind = λ m e. absurd (let z : ◌≡◌ {A = ℕ} 0 1 = cc in omega arith);
       }
 
-  pub seeks_found : {o z : ℕ} → HasNames path → Answered s t d p path name (Found o z) → SeeksMembers s t d at path name (Found o z)
+  pub seeks_found : {o z : ℕ} → HasNames path → Answered s t d p path name (Some (Found o z)) → SeeksMembers s t d at path name (Some (Found o z))
   seeks_found N h =
       record {
         finds = answered h;
@@ -125,7 +124,7 @@ module _ {s t : List ℕ} {d at p : ℕ} {path name : List ℕ} (g : Goes s t d 
         behind = λ m e. absurd (let z : ◌≡◌ {A = ℕ} 0 1 = cc in omega arith);
       }
 
-  pub seeks_after : {a : ℕ} → at < a → a ≤ length s → Answered s t d p path name (After a) → SeeksMembers s t d at path name (After a)
+  pub seeks_after : {a : ℕ} → at < a → a ≤ length s → Answered s t d p path name (Some (After a)) → SeeksMembers s t d at path name (Some (After a))
   seeks_after {a} b c h =
       record {
         finds = answered h;
@@ -134,26 +133,26 @@ module _ {s t : List ℕ} {d at p : ℕ} {path name : List ℕ} (g : Goes s t d 
       }
 
 -- where there are no members from p on, anything answers
-pub stops-answered : {s t : List ℕ} {d p : ℕ} {path name : List ℕ} {r : Hit} → ((t : List ℕ) (f : Bool) (n : ℕ) → Members s t f d p n → ⊥)
+pub stops-answered : {s t : List ℕ} {d p : ℕ} {path name : List ℕ} {r : Option Hit} → ((t : List ℕ) (f : Bool) (n : ℕ) → Members s t f d p n → ⊥)
     → Answered s t d p path name r
 stops-answered {t = t} h names R f n x = absurd (h t f n x)
 
 -- ---- the steps
 
-module _ {s t : List ℕ} {p : ℕ} {r : Next} (T : DecidesToken s p r) {k a : ℕ} (q : r ≡ Is k a) {d : ℕ} {path name : List ℕ} where
-  pub answered-close : k ≡ end_node → Answered s t d p path name (After a)
+module _ {s t : List ℕ} {p : ℕ} {r : Option (Kind × ℕ)} (T : DecidesToken s p r) {k : Kind} {a : ℕ} (q : r ≡ Some (k, a)) {d : ℕ} {path name : List ℕ} where
+  pub answered-close : k ≡ EndNode → Answered s t d p path name (Some (After a))
   answered-close e names R f n x = go (first_items T q x)
     where
-      go : {items : List Item} → FirstItems s t f d k a n items → Looks (Wanted names name) n items (After a)
-      go (a-property u m v w i) = absurd (omega arith)
-      go (a-subnode u m v w i) = absurd (omega arith)
+      go : {items : List Item} → FirstItems s t f d k a n items → Looks (Wanted names name) n items (Some (After a))
+      go (a-property u m v w i) = absurd cc
+      go (a-subnode u m v w i) = absurd cc
       go {items} (a-close u v i) =
-          subst (λ (j : ℕ). Looks (Wanted names name) n items (After j)) v (after (subst (Without (Wanted names name)) (sym i) nothing))
+          subst (λ (j : ℕ). Looks (Wanted names name) n items (Some (After j))) v (after (subst (Without (Wanted names name)) (sym i) nothing))
 
   -- ---- a property
 
-  module _ (f₂ : k ≡ end_node → ⊥) (f₁ : k ≡ begin_node → ⊥) where
-    module _ {o : Place} (D : Decides (Value s a) o) {m : ℕ} (h : o ≡ At m) where
+  module _ (f₂ : k ≡ EndNode → ⊥) (f₁ : k ≡ BeginNode → ⊥) where
+    module _ {o : Option ℕ} (D : Decides (Value s a) o) {m : ℕ} (h : o ≡ Some m) where
       pub steps_property : ((names : List (List ℕ)) → Names path names → (m : ℕ) (v : Property s t a m) → Wanted names name (item_at s t a m v) → ⊥)
           → Steps s t d p m path name
       steps_property F names R f n x = go (first_items T q x)
@@ -173,24 +172,24 @@ module _ {s t : List ℕ} {p : ℕ} {r : Next} (T : DecidesToken s p r) {k a : �
 
     pub answered-property : {z : ℕ} → z ≡ cell s a
         → ((names : List (List ℕ)) → Names path names → (m : ℕ) (v : Property s t a m) → Wanted names name (item_at s t a m v))
-        → Answered s t d p path name (Found (a + 8) z)
+        → Answered s t d p path name (Some (Found (a + 8) z))
     unfolding item_at
     answered-property {z} e F names R f n x = go (first_items T q x)
       where
-        go : {items : List Item} → FirstItems s t f d k a n items → Looks (Wanted names name) n items (Found (a + 8) z)
+        go : {items : List Item} → FirstItems s t f d k a n items → Looks (Wanted names name) n items (Some (Found (a + 8) z))
         go (a-property u m v w i) =
-            subst (λ (y : List Item). Looks (Wanted names name) n y (Found (a + 8) z)) (sym i) (found (here refl e (F names R m v)))
+            subst (λ (y : List Item). Looks (Wanted names name) n y (Some (Found (a + 8) z))) (sym i) (found (here refl e (F names R m v)))
         go (a-subnode u m v w i) = absurd (f₁ u)
         go (a-close u v i) = absurd (f₂ u)
 
   -- ---- a subnode
 
-  module _ (e : k ≡ begin_node) {h : Hit} (N : SeeksNode s t d a path name h) where
-    pub steps_node : {m : ℕ} → h ≡ After m → Steps s t d p m path name
+  module _ (e : k ≡ BeginNode) {h : Option Hit} (N : SeeksNode s t d a path name h) where
+    pub steps_node : {m : ℕ} → h ≡ Some (After m) → Steps s t d p m path name
     steps_node {m} H names R f n x = go (first_items T q x)
       where
         go : {items : List Item} → FirstItems s t f d k a n items → Left s t d m n (Wanted names name) items
-        go (a-property u m' v w i) = absurd (omega arith)
+        go (a-property u m' v w i) = absurd cc
         go {items} (a-subnode u m' v w i) =
             let y = looks_after (N.finds names R m' v) H in
             subst (λ (j : ℕ). Left s t d j n (Wanted names name) items) y.0
@@ -199,25 +198,25 @@ module _ {s t : List ℕ} {p : ℕ} {r : Next} (T : DecidesToken s p r) {k a : �
               rest = w;
               answers = λ r l. subst (λ (z : List Item). Looks (Wanted names name) n z r) (sym i) (looks_behind (member_items w) y.1 l);
             })
-        go (a-close u v i) = absurd (omega arith)
+        go (a-close u v i) = absurd cc
 
-    pub answered-node : {o z : ℕ} → h ≡ Found o z → Answered s t d p path name (Found o z)
+    pub answered-node : {o z : ℕ} → h ≡ Some (Found o z) → Answered s t d p path name (Some (Found o z))
     answered-node {o} {z} H names R f n x = go (first_items T q x)
       where
-        go : {items : List Item} → FirstItems s t f d k a n items → Looks (Wanted names name) n items (Found o z)
-        go (a-property u m v w i) = absurd (omega arith)
+        go : {items : List Item} → FirstItems s t f d k a n items → Looks (Wanted names name) n items (Some (Found o z))
+        go (a-property u m v w i) = absurd cc
         go (a-subnode u m v w i) =
             let l = looks_append (member_items w) (N.finds names R m v) H in
-            subst (λ (y : List Item). Looks (Wanted names name) n y (Found o z)) (sym i) l
-        go (a-close u v i) = absurd (omega arith)
+            subst (λ (y : List Item). Looks (Wanted names name) n y (Some (Found o z))) (sym i) l
+        go (a-close u v i) = absurd cc
 
-    pub broken-node : h ≡ Broken → Answered s t d p path name Broken
+    pub broken-node : h ≡ None → Answered s t d p path name None
     broken-node H names R f n x = go (first_items T q x)
       where
-        go : {items : List Item} → FirstItems s t f d k a n items → Looks (Wanted names name) n items Broken
-        go (a-property u m v w i) = absurd (omega arith)
+        go : {items : List Item} → FirstItems s t f d k a n items → Looks (Wanted names name) n items None
+        go (a-property u m v w i) = absurd cc
         go (a-subnode u m v w i) = absurd (looks_broken (N.finds names R m v) H)
-        go (a-close u v i) = absurd (omega arith)
+        go (a-close u v i) = absurd cc
 
 -- ---- a node that the path passes by, and one that it enters
 
@@ -238,7 +237,7 @@ pub entered_names : {s : List ℕ} {a e : ℕ} {path : List ℕ} → Enters s a 
 entered_names E n = record { names = _; are = cut-names E.starts E.to E.some n.are }
 
 module _ {s t : List ℕ} {a d : ℕ} {path name : List ℕ} where
-  pub seeks_none : ((n : ℕ) → Node s t d a n → ⊥) → SeeksNode s t d a path name Broken
+  pub seeks_none : ((n : ℕ) → Node s t d a n → ⊥) → SeeksNode s t d a path name None
   seeks_none f =
       record {
         finds = λ names R n v. absurd (f n v);
@@ -246,21 +245,21 @@ module _ {s t : List ℕ} {a d : ℕ} {path name : List ℕ} where
         behind = λ m e. absurd (let z : ◌≡◌ {A = ℕ} 0 1 = cc in omega arith);
       }
 
-  pub seeks_passed : {o : Place} {m : ℕ} → Decides (Enters s a path) o → o ≡ Nowhere → {b : Place} → BehindNode s d a b → b ≡ At m
-      → SeeksNode s t d a path name (After m)
+  pub seeks_passed : {o : Option ℕ} {m : ℕ} → Decides (Enters s a path) o → o ≡ None → {b : Option ℕ} → BehindNode s d a b → b ≡ Some m
+      → SeeksNode s t d a path name (Some (After m))
   seeks_passed {m = m} E e B h =
       let c = B.bounds m h in
       record {
         finds = λ names R n v.
             let l = B.finds t n v in
             let l' : n ≡ m = cc in
-            subst (λ (j : ℕ). Looks (Wanted names name) n (node_items v) (After j)) l' (after (passes R (never E e) v));
+            subst (λ (j : ℕ). Looks (Wanted names name) n (node_items v) (Some (After j))) l' (after (passes R (never E e) v));
         named = λ o z e. absurd (let z : ◌≡◌ {A = ℕ} 0 1 = cc in omega arith);
         behind = λ n i. let j : m ≡ n = cc in (omega arith, omega arith);
       }
 
-  module _ {o : Place} (N : Decides (Name s a) o) {b d' : ℕ} (h : o ≡ At b) (i : d ≡ suc d')
-      {e : ℕ} (E : Enters s a path e) {left : List ℕ} (l : left ≡ drop e path) {r : Hit} (S : SeeksMembers s t d' b left name r) where
+  module _ {o : Option ℕ} (N : Decides (Name s a) o) {b d' : ℕ} (h : o ≡ Some b) (i : d ≡ suc d')
+      {e : ℕ} (E : Enters s a path e) {left : List ℕ} (l : left ≡ drop e path) {r : Option Hit} (S : SeeksMembers s t d' b left name r) where
     -- what the search inside the node answers, whatever the node's derivation
     inner : {d'' a'' m : ℕ} → d ≡ suc d'' → Name s a a'' → (y : Members s t true d'' a'' m) → {cs : List (List ℕ)} → Names (drop e path) cs
         → Looks (Wanted cs name) m (member_items y) r
@@ -326,18 +325,20 @@ module _ {s t : List ℕ} {a : ℕ} {path name : List ℕ} where
 
 -- ---- the root
 
-pub root-unnamed : {s t : List ℕ} {at : ℕ} {r : Next} {k a : ℕ} → DecidesToken s at r → r ≡ Is k a → {o : Place} → Decides (Name s a) o
-    → o ≡ Nowhere → (n : ℕ) → Root s t at n → ⊥
+pub root-unnamed : {s t : List ℕ} {at : ℕ} {r : Option (Kind × ℕ)} {k : Kind} {a : ℕ} → DecidesToken s at r → r ≡ Some (k, a)
+    → {o : Option ℕ} → Decides (Name s a) o
+    → o ≡ None → (n : ℕ) → Root s t at n → ⊥
 root-unnamed {s} {t} T q N e n x =
     let y = token_only T q x.begins (λ g. omega arith) in
     node-unnamed N e n (subst (λ (i : ℕ). Node s t deepest i n) y.1 x.node)
 
 module _ {s t : List ℕ} {at : ℕ} {path name : List ℕ} where
-  pub root-broken : ((n : ℕ) → Root s t at n → ⊥) → SeeksRoot s t at path name Broken
+  pub root-broken : ((n : ℕ) → Root s t at n → ⊥) → SeeksRoot s t at path name None
   root-broken f =
       record { finds = λ names R n x. absurd (f n x); named = λ o z e. absurd (let z : ◌≡◌ {A = ℕ} 0 1 = cc in omega arith) }
 
-  pub root_seeks : {r : Next} {k a b : ℕ} → DecidesToken s at r → r ≡ Is k a → {o : Place} → Decides (Name s a) o → o ≡ At b → {h : Hit}
+  pub root_seeks : {r : Option (Kind × ℕ)} {k : Kind} {a b : ℕ} → DecidesToken s at r → r ≡ Some (k, a)
+      → {o : Option ℕ} → Decides (Name s a) o → o ≡ Some b → {h : Option Hit}
       → SeeksMembers s t (deepest - 1) b path name h → SeeksRoot s t at path name h
   unfolding root_items
   root_seeks {k = k} {a = a} {b = b} T q N e {h} S = record { finds = λ names R n x. go names R x.begins x.node; named = S.named }

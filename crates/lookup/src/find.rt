@@ -1,51 +1,62 @@
 // The lookup, in find's two forms.
-ghost use Rattle.std.specs.Prelude.{◌≡◌, ◌<◌, length};
-ghost use Rattle.devicetree.specs.Tree.{Tree};
+ghost use Rattle.std.specs.Prelude.{◌≡◌};
 ghost use Rattle.lookup.specs.Lookup.{refused_with, Lookup, LookupPart};
+ghost use Rattle.lookup.specs.Search.{number_of, answer_of};
 
-use crate::seek::Hit;
-use crate::{names, seek};
+use crate::names;
+use crate::seek::{Hit, Search};
 use devicetree::header::Header;
 use devicetree::tree;
-use rules::FindAnswer;
+use rules::{Extent, FindAnswer};
 
-// The refusal's number where there is no such property.
-const NONE: u32 = 13;
+// Why there is no value.
+#[derive(Clone, Copy)]
+enum Refusal {
+    // 21 FDT: the data is no tree by the grammar.
+    Fdt,
+    // 13 NONE: the tree has no such property.
+    Nothing,
+}
 
-// A refusal's answer.
-fn refused(number: u32) -> FindAnswer
-    ensures { result ≡ refused_with number }
-{
-    FindAnswer {
-        number,
-        offset: 0,
-        size: 0,
-        at: 0,
+impl From<Refusal> for FindAnswer {
+    ghost from_gives = { λ r answer. answer ≡ refused_with (number_of r) };
+
+    fn from(r: Refusal) -> FindAnswer {
+        let number = match r {
+            Refusal::Fdt => tree::FDT,
+            Refusal::Nothing => rules::Refusal::None.into(),
+        };
+        FindAnswer {
+            number,
+            offset: 0,
+            size: 0,
+            at: 0,
+        }
     }
 }
 
-// The search of data that is a tree.
-fn search(data: &[u8], path: &[u8], name: &[u8]) -> FindAnswer
-    requires tree { Tree «data».now }
-    requires path_nonzero { 0 < length path.now }
-    ensures { Lookup «data».now path.now name.now result }
+// The value's offset and size.
+fn value(data: &[u8], path: &[u8], name: &[u8]) -> Result<Extent, Refusal>
+    ensures { Lookup «data».now path.now name.now (answer_of result) }
 {
+    if !tree::tree(data) {
+        return Err(Refusal::Fdt);
+    }
+    if path.len() == 0 {
+        return Err(Refusal::Nothing);
+    }
     let h = Header::read(data);
-    let at = h.off_dt_struct as usize;
-    let below = names::below_root(path);
-    match seek::seek_root(h.structure(data), h.strings(data), at, below, name) {
-        Hit::Found(from, len) => {
-            let offset = from as u32;
-            let size = len as u32;
-            FindAnswer {
-                number: 0,
-                offset,
-                size,
-                at: 0,
-            }
-        }
-        Hit::After(_) => refused(NONE),
-        Hit::Broken => refused(NONE),
+    let search = Search {
+        blocks: h.blocks(data),
+        name,
+    };
+    let hit = search.root(h.off_dt_struct as usize, names::below_root(path));
+    match hit.ok_or(Refusal::Nothing)? {
+        Hit::Found(offset, size) => Ok(Extent {
+            offset: offset as u32,
+            size: size as u32,
+        }),
+        Hit::After(_) => Err(Refusal::Nothing),
     }
 }
 
@@ -53,13 +64,15 @@ fn search(data: &[u8], path: &[u8], name: &[u8]) -> FindAnswer
 pub fn find(data: &[u8], path: &[u8], name: &[u8]) -> FindAnswer
     ensures { Lookup «data».now path.now name.now result }
 {
-    if !tree::tree(data) {
-        return refused(tree::FDT);
+    match value(data, path, name) {
+        Ok(found) => FindAnswer {
+            number: 0,
+            offset: found.offset,
+            size: found.size,
+            at: 0,
+        },
+        Err(refusal) => refusal.into(),
     }
-    if path.len() == 0 {
-        return refused(NONE);
-    }
-    search(data, path, name)
 }
 
 // The value itself, as a part of the caller's data; the empty part at its start where find refuses.
@@ -67,6 +80,7 @@ pub fn find_data<'a>(data: &'a [u8], path: &[u8], name: &[u8]) -> &'a [u8]
     ensures same_memory { result.ref_ptr.0 ≡ «data».entry.ref_ptr.0 }
     ensures lookup_part { LookupPart «data».now path.now name.now «data».entry.ref_ptr.1 result.now result.ref_ptr.1 }
 {
+    // A refusal's offset and size are 0: its part is empty.
     let found = find(data, path, name);
     let from = found.offset as usize;
     let to = from + found.size as usize;

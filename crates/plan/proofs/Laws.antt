@@ -11,7 +11,7 @@ use lib.Bits.{bit_xor, xor_zero_l, xor_zero_r}
 use borrow.Author.Tests.{ltb-true, ltb-false, lt-ltb, le-ltb, leb-true, leb-false}
 use Rattle.wire.specs.Bytes.{xor}
 use Rattle.wire.proofs.Range.{Bytes}
-use Rattle.wire.proofs.Xor.{xor-append, xor-zeros}
+use Rattle.wire.proofs.XorLaws.{xor-append, xor-zeros}
 use Rattle.wire.proofs.Splice.{drop-take}
 use Rattle.rules.specs.Header.{header_of}
 use Rattle.rules.specs.Entries.{entry_header}

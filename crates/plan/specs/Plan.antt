@@ -1,18 +1,15 @@
 -- What a plan says: the bytes of its stretch, the area afterwards, and the outcome that it stands for.
-use Rattle.std.specs.Prelude.{◌≡◌, ℕ, ◌+◌, ◌-◌, ◌*◌, ◌/◌, ◌%◌, ◌≤◌, ◌<◌, ◌^◌, max, cond, List, [], ◌++◌, length, set, replicate, ltb}
+use Rattle.std.specs.Prelude.{Err, Ok, Result, ◌≡◌, ℕ, ◌+◌, ◌-◌, ◌*◌, ◌/◌, ◌%◌, ◌≤◌, ◌<◌, ◌^◌, max, cond, List, [], ◌++◌, length, set, replicate, ltb}
 use Rattle.std.specs.Int.Bits.{bit_xor}
 use Rattle.wire.specs.Bytes.{le_bytes, xor, splice}
 use Rattle.rules.specs.declared.Header.{Header}
 use Rattle.rules.specs.Header.{header_of, header_size, entry_header_size, has_checksum, checksum_at, with_alignment, with_used}
 use Rattle.rules.specs.declared.Refusal.{Refusal}
-use Rattle.rules.specs.declared.Refusal.TheVariants.{Area}
 use Rattle.rules.specs.Entries.{entry_header}
 use Rattle.rules.specs.AddAligned.{void_bytes}
 use Rattle.rules.specs.Outcome.{Outcome, refused, done}
 use Rattle.laws.proofs.Patch.{patched}
 use Rattle.plan.specs.declared.Plan.{Plan}
-use Rattle.plan.specs.declared.Planned.{Planned}
-use Rattle.plan.specs.declared.Planned.TheVariants.{Go, Refused}
 
 -- the eight bytes of an entry header as one number
 abbrev pub entry_word : ℕ → ℕ → ℕ
@@ -69,14 +66,9 @@ with_checksum a content p =
     }
 
 -- what a decision comes to
-unfoldable pub outcome_of : List ℕ → List ℕ → Planned → Outcome
-outcome_of a content (Go p) = done p.value (after p a content)
-outcome_of a content (Refused r) = refused r
-
--- why nothing is to be done; of a plan it is not asked
-abbrev pub refusal_of_planned : Planned → Refusal
-refusal_of_planned (Go p) = Area
-refusal_of_planned (Refused r) = r
+unfoldable pub outcome_of : List ℕ → List ℕ → Result Plan Refusal → Outcome
+outcome_of a content (Ok p) = done p.value (after p a content)
+outcome_of a content (Err r) = refused r
 
 -- a plan is well-formed for a list with the header h in len bytes, and n bytes of data: its stretch starts at a multiple of 8 behind the
 -- header, among the used bytes or at their end, and lies inside the area's whole words of 8 bytes; used_size reaches to its end; a padding void takes no byte
@@ -93,12 +85,12 @@ pub record WellFormed (h : Header) (len n : ℕ) (p : Plan) : Type 0 where
   pub small : len < 2 ^ 32
 
 -- a plan that is to be written can be
-abbrev pub CanWrite : List ℕ → List ℕ → Planned → Type 0
-CanWrite a content (Go p) = WellFormed (header_of a) (length a) (length content) p
-CanWrite a content (Refused r) = Unit
+abbrev pub CanWrite : List ℕ → List ℕ → Result Plan Refusal → Type 0
+CanWrite a content (Ok p) = WellFormed (header_of a) (length a) (length content) p
+CanWrite a content (Err r) = Unit
 
 -- a decision comes to the outcome o
-pub record Decides (a content : List ℕ) (o : Outcome) (r : Planned) : Type 0 where
+pub record Decides (a content : List ℕ) (o : Outcome) (r : Result Plan Refusal) : Type 0 where
   pub comes : outcome_of a content r ≡ o
   pub writable : CanWrite a content r
 

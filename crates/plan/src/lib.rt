@@ -5,12 +5,10 @@ pub mod sum;
 pub mod write;
 
 ghost use Rattle.std.specs.Prelude.{◌≡◌, ◌<◌, ◌^◌};
-ghost use Rattle.plan.specs.Plan.{entry_word, refusal_of_planned};
+ghost use Rattle.plan.specs.Plan.{entry_word};
 
-use rules::Refusal;
-
-// A stretch of entries and the header fields that go with it: final numbers. A void is an entry with tag 0, no data and zeros behind
-// its header.
+// A stretch of entries and the header fields that go with it: final numbers, 0 for what is not there, as a C caller's state carries them. A
+// void is an entry with tag 0, no data and zeros behind its header.
 #[derive(Clone, Copy)]
 pub struct Plan {
     // What the call answers.
@@ -30,26 +28,7 @@ pub struct Plan {
     pub behind: usize,
 }
 
-// What an edit has decided.
-#[derive(Clone, Copy)]
-pub enum Planned {
-    Go(Plan),
-    Refused(Refusal),
-}
-
-impl Planned {
-    // Why nothing is to be done.
-    pub fn refusal(self) -> Refusal
-        ensures { result ≡ refusal_of_planned self }
-    {
-        match self {
-            Planned::Go(_) => Refusal::Area,
-            Planned::Refused(r) => r,
-        }
-    }
-}
-
-// The eight bytes of an entry header as one number.
+// The eight bytes of an entry header as one number. No type for a tag below 2^24: a C caller's state carries any number as its plan's tag.
 pub(crate) fn entry_word(tag: u32, size: u32) -> u64
     requires { tag < 2 ^ 24 }
     ensures { result ≡ entry_word tag size }

@@ -1,12 +1,13 @@
 // The checksum byte that the area will have, from the old and the new named bytes. The list is not reckoned anew.
 ghost use Rattle.std.specs.Prelude.{◌≡◌, ◌+◌, ◌-◌, ◌≤◌, ◌<◌, ◌^◌, min, length};
 ghost use Rattle.wire.specs.Bytes.{xor};
-ghost use Rattle.rules.specs.Header.{header_of};
 ghost use Rattle.laws.proofs.Patch.{patch_of};
 ghost use Rattle.plan.specs.Plan.{void_header, header_span, stretch_length, stretch_of, with_checksum, total_patch, WellFormed};
 
 use crate::Plan;
 use rules::Header;
+use rules::list::List;
+use wire::Number;
 
 // The exclusive or of the header of a void that takes n bytes, if there is one.
 fn xor_void(n: usize) -> u8
@@ -17,7 +18,7 @@ fn xor_void(n: usize) -> u8
         return 0;
     }
     let size = n - 8;
-    wire::xor8(crate::entry_word(0, size as u32))
+    crate::entry_word(0, size as u32).fold()
 }
 
 // The exclusive or of the bytes that the plan will write in its stretch.
@@ -26,8 +27,7 @@ fn xor_stretch(p: Plan, data: &[u8]) -> u8
     ensures { result ≡ xor (stretch_of p «data».now) }
 {
     xor_void(p.padding)
-        ^ (wire::xor8(crate::entry_word(p.tag_id, p.data_size))
-            ^ (wire::xor_part(data, 0, data.len()) ^ xor_void(p.behind)))
+        ^ (crate::entry_word(p.tag_id, p.data_size).fold() ^ (wire::xor(data) ^ xor_void(p.behind)))
 }
 
 // The bytes of the header of a void that takes n bytes, if there is one.
@@ -54,30 +54,30 @@ fn old_length(p: Plan, n: usize, used: usize) -> usize
 }
 
 // The checksum byte with has_checksum: the old one, and the exclusive or of the old and the new named bytes.
-fn patch(p: Plan, a: &[u8], h: Header, data: &[u8]) -> u8
-    requires { (h ≡ header_of a.now) × (h.used_size ≤ length a.now) × WellFormed h (length a.now) (length «data».now) p }
-    ensures { result ≡ patch_of a.now p.alignment p.used_size p.at (stretch_of p «data».now) }
+fn patch(p: Plan, list: List, data: &[u8]) -> u8
+    requires { WellFormed list.header (length list.bytes.now) (length «data».now) p }
+    ensures { result ≡ patch_of list.entry.bytes.now p.alignment p.used_size p.at (stretch_of p «data».now) }
 {
+    let h = list.header;
     let at = p.at;
     let old = old_length(p, data.len(), h.used_size as usize);
     h.checksum
         ^ h.alignment
         ^ p.alignment
-        ^ wire::xor4(h.used_size)
-        ^ wire::xor4(p.used_size)
-        ^ wire::xor_part(a, at, old)
+        ^ h.used_size.fold()
+        ^ p.used_size.fold()
+        ^ wire::xor(&list.bytes[at..at + old])
         ^ xor_stretch(p, data)
 }
 
 // The plan with the checksum byte that the area will have; without has_checksum it is 0.
-pub fn with_checksum(p: Plan, a: &[u8], h: Header, data: &[u8]) -> Plan
-    requires { (h ≡ header_of a.now) × (h.used_size ≤ length a.now) × WellFormed h (length a.now) (length «data».now) p }
-    ensures { result ≡ with_checksum a.now «data».now p }
+pub fn with_checksum(p: Plan, list: List, data: &[u8]) -> Plan
+    requires { WellFormed list.header (length list.bytes.now) (length «data».now) p }
+    ensures { result ≡ with_checksum list.entry.bytes.now «data».now p }
 {
     let mut sealed = p;
-    if h.flags % 2 == 1 {
-        let x = patch(p, a, h, data);
-        sealed.checksum = x;
+    if list.header.has_checksum() {
+        sealed.checksum = patch(p, list, data);
         return sealed;
     }
     sealed.checksum = 0;
@@ -88,8 +88,8 @@ pub fn with_checksum(p: Plan, a: &[u8], h: Header, data: &[u8]) -> Plan
 pub fn total_patch(h: Header, total: u32) -> u8
     ensures { result ≡ total_patch h total }
 {
-    if h.flags % 2 == 1 {
-        return h.checksum ^ wire::xor4(h.total_size) ^ wire::xor4(total);
+    if h.has_checksum() {
+        return h.checksum ^ h.total_size.fold() ^ total.fold();
     }
     0
 }

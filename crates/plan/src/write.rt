@@ -6,8 +6,9 @@ ghost use Rattle.rules.specs.Entries.{entry_header};
 ghost use Rattle.rules.specs.Outcome.{answer, bytes_after};
 ghost use Rattle.plan.specs.Plan.{void_header, whole_void, fields_after, after, WellFormed, outcome_of, CanWrite};
 
-use crate::{Plan, Planned};
-use rules::Done;
+use crate::Plan;
+use rules::Refusal;
+use wire::Number;
 
 // The checksum byte, the alignment and used_size.
 fn write_fields(a: &mut [u8], p: Plan)
@@ -16,10 +17,10 @@ fn write_fields(a: &mut [u8], p: Plan)
 {
     a[4] = p.checksum;
     a[7] = p.alignment;
-    wire::write4(a, 8, p.used_size);
+    p.used_size.write(a, 8);
 }
 
-// The header of a void that takes n bytes, if there is one.
+// The header of a void that takes n bytes, if there is one. The whole area with a place in it: `splice` speaks of all its bytes.
 fn write_void_header(a: &mut [u8], at: usize, n: usize)
     requires { (at + n ≤ length a.old) × (n < 2 ^ 32) }
     ensures { a.new ≡ splice a.old at (void_header n) }
@@ -28,10 +29,10 @@ fn write_void_header(a: &mut [u8], at: usize, n: usize)
         return;
     }
     let size = n - 8;
-    wire::write8(a, at, crate::entry_word(0, size as u32));
+    crate::entry_word(0, size as u32).write(a, at);
 }
 
-// A void that takes n bytes, its data 0, if there is one.
+// A void that takes n bytes, its data 0, if there is one. The span is a usize as places are: a u32 would be cast at every use.
 pub fn write_void(a: &mut [u8], at: usize, n: usize)
     requires { (at + n ≤ length a.old) × (n < 2 ^ 32) }
     ensures { a.new ≡ splice a.old at (whole_void n) }
@@ -48,7 +49,7 @@ fn write_entry(a: &mut [u8], at: usize, tag: u32, size: u32, data: &[u8], zeros:
     ensures { a.new ≡ splice a.old at (entry_header tag size ++ («data».now ++ replicate zeros 0)) }
 {
     let from = at + 8;
-    wire::write8(a, at, crate::entry_word(tag, size));
+    crate::entry_word(tag, size).write(a, at);
     wire::copy_part(a, from, data);
     wire::zero_part(a, from + data.len(), zeros);
 }
@@ -68,14 +69,16 @@ fn write_plan(a: &mut [u8], p: Plan, data: &[u8])
 }
 
 // Carries out what an edit has decided. A refusal changes no byte.
-pub fn carry_out(area: &mut [u8], planned: Planned, data: &[u8]) -> Done
+pub fn carry_out(
+    area: &mut [u8],
+    planned: Result<Plan, Refusal>,
+    data: &[u8],
+) -> Result<u32, Refusal>
     requires { CanWrite area.old «data».now planned }
     ensures value { result ≡ answer (outcome_of area.old «data».now planned) }
     ensures area_after { area.new ≡ bytes_after area.old (outcome_of area.old «data».now planned) }
 {
-    let Planned::Go(p) = planned else {
-        return Done::Refused(planned.refusal());
-    };
+    let p = planned?;
     write_plan(area, p, data);
-    Done::Value(p.value)
+    Ok(p.value)
 }

@@ -1,12 +1,14 @@
 -- Document 02, request 8, by examples of our own: the number and the place that a check answers, worked out by hand from the lists' bytes.
 -- The lists stand at 0x1000. But for edition 0.9's they have no checksum; but for that of `pastUsed`, which has two, they have three entries,
 -- of 16 bytes each.
+use Rattle.std.specs.Prelude.{Result}
+use Rattle.rules.specs.declared.Facts.{Facts}
+use Rattle.rules.specs.declared.Refusal.{Refusal}
 use mathlib.Core.Path.{◌≡◌, refl}
 use Prim.Native.Nat.{ℕ}
 use mathlib.Core.List.{List, [], ◌∷◌, ◌++◌, map}
 use lib.ListN.{replicate}
 use Rattle.wire.specs.Bytes.{field, xor, sum}
-use Rattle.rules.specs.declared.Checked.{Checked}
 use Rattle.rules.specs.declared.CheckAnswer.{CheckAnswer}
 use Rattle.rules.specs.Header.{header_of}
 use Rattle.rules.specs.Entries.{entry_at, walk_in, walk_from, walk, live_count, void_count}
@@ -57,7 +59,7 @@ three version x y z = header 0 version 72 ++ (x ++ (y ++ z))
 -- ---- the claim
 
 -- the number of a check's answer, and the place
-abbrev placed : Checked → List ℕ
+abbrev placed : Result Facts Refusal → List ℕ
 placed x = let n : CheckAnswer = check_answer x in n.number ∷ n.at ∷ []
 
 abbrev shown : List ℕ → List ℕ

@@ -1,4 +1,5 @@
 -- Document 02, request 5, by its own example and by examples of ours: what the rules compute. The list stands at 0x1000, without checksum.
+use Rattle.std.specs.Prelude.{Err, Ok}
 use mathlib.Core.Path.{◌≡◌, refl}
 use Prim.Native.Nat.{ℕ}
 use mathlib.Core.Bool.{true, false}
@@ -6,7 +7,7 @@ use mathlib.Core.List.{List, [], ◌∷◌}
 use lib.IntN.{pos, negsuc}
 use lib.Ieee.{Float, fin, of_bits, of_int, add, mul, lt, eq, le}
 use Rattle.wire.specs.Bytes.{field, le_bytes, splice}
-use Rattle.rules.specs.declared.certificate.Certified.TheVariants.{Read, NotOne, Another, Unsound}
+use Rattle.rules.specs.declared.certificate.Uncertified.TheVariants as uncertified
 use Rattle.rules.specs.Header.{header_of}
 use Rattle.rules.specs.Entries.{entry_at, walk_in, walk_from, walk, entries_of, live_count, void_count}
 use Rattle.rules.specs.Checksum.{checksum_holds}
@@ -83,16 +84,16 @@ pub record CertificateExamples : Type 0 where
   pub offset : float 0xc059000000000000 ≡ minus_hundred
   pub reading : float 0x408c200000000000 ≡ nine_hundred
   -- limits included in the pass
-  pub passed : certify area_band 0x1000 7 9 ≡ Read nine_hundred true
-  pub ceiling : certify area_ceiling 0x1000 7 9 ≡ Read nine_hundred true
-  pub failed : certify area_below 0x1000 7 9 ≡ Read nine_hundred false
+  pub passed : certify area_band 0x1000 7 9 ≡ Ok (record { reading = nine_hundred; pass = true })
+  pub ceiling : certify area_ceiling 0x1000 7 9 ≡ Ok (record { reading = nine_hundred; pass = true })
+  pub failed : certify area_below 0x1000 7 9 ≡ Ok (record { reading = nine_hundred; pass = false })
   -- 18, 19, 20
-  pub missing : certify area_none 0x1000 7 9 ≡ NotOne
-  pub serial : certify area_band 0x1000 8 9 ≡ Another
-  pub counts : certify area_counts 0x1000 7 9 ≡ Unsound
-  pub unused : certify area_negative_zero 0x1000 7 9 ≡ Unsound
+  pub missing : certify area_none 0x1000 7 9 ≡ (Err uncertified.NotOne)
+  pub serial : certify area_band 0x1000 8 9 ≡ (Err uncertified.Another)
+  pub counts : certify area_counts 0x1000 7 9 ≡ (Err uncertified.Unsound)
+  pub unused : certify area_negative_zero 0x1000 7 9 ≡ (Err uncertified.Unsound)
   -- 19 before 20: the counts are wrong too
-  pub test : certify area_counts 0x1000 7 8 ≡ Another
+  pub test : certify area_counts 0x1000 7 8 ≡ (Err uncertified.Another)
 
 pub certificate_examples : CertificateExamples
 unfolding field le_bytes splice header_of entry_at walk_in walk_from walk entries_of live_count void_count checksum_holds fields_refusal header_refusal

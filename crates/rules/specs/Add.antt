@@ -1,6 +1,5 @@
 -- Document 01, "Add".
-use Rattle.std.specs.Prelude.{ℕ, ◌+◌, ◌-◌, Bool, true, false, ◌&&◌, cond, List, [], ◌∷◌, ◌++◌, length, replicate, leb, ltb}
-use Rattle.std.proofs.Math.Option.{Option, none, some}
+use Rattle.std.specs.Prelude.{None, Option, Some, ℕ, ◌+◌, ◌-◌, Bool, true, false, ◌&&◌, cond, List, [], ◌∷◌, ◌++◌, length, replicate, leb, ltb}
 use Rattle.wire.specs.Bytes.{splice}
 use Rattle.rules.specs.declared.Entry.{Entry}
 use Rattle.rules.specs.declared.Refusal.TheVariants.{Tag, Shape, Room}
@@ -23,13 +22,13 @@ entry_bytes tag content =
 
 -- "the first void in list order with data_size v at least n"
 unfoldable pub first_fit : ℕ → List Entry → Option Entry
-first_fit n [] = none
-first_fit n (e ∷ es) = cond (is_void e && leb n e.data_size) (some e) (first_fit n es)
+first_fit n [] = None
+first_fit n (e ∷ es) = cond (is_void e && leb n e.data_size) (Some e) (first_fit n es)
 
 -- the void taken, if voids may be used
 abbrev pub taken_void : Bool → ℕ → List ℕ → Option Entry
 taken_void true n a = first_fit n (entries_of a)
-taken_void false n a = none
+taken_void false n a = None
 
 -- what is left of a void's data_size v behind the entry: "When v - align8(n) is 8 or more, a void of data_size
 -- v - align8(n) - 8 follows; only its eight header bytes are written."
@@ -61,8 +60,8 @@ add_at_end a tag content =
 
 -- the entry in the void taken, or at used_size where none is
 abbrev pub add_at : List ℕ → ℕ → List ℕ → Option Entry → Outcome
-add_at a tag content (some e) = add_in_void a tag content e
-add_at a tag content none = add_at_end a tag content
+add_at a tag content (Some e) = add_in_void a tag content e
+add_at a tag content None = add_at_end a tag content
 
 -- an add to a list that is admitted: 9, 10, then the add; answers the new data's offset
 unfoldable pub add : List ℕ → ℕ → List ℕ → Bool → Outcome

@@ -1,13 +1,12 @@
 -- Document 02, request 8: "Say where the bad entry is". The place in an answer is `place_of` of its refusal (Refusals), and every answer in
 -- numbers has it as `at`. Here is what holds of it: which entry it is, said without the walk; that each call's 8 is its check's; that there is
 -- no place elsewhere.
-use Rattle.std.specs.Prelude.{◌≡◌, ℕ, ◌+◌, ◌-◌, ◌≤◌, ◌<◌, Bool, true, false, List, length}
-use Rattle.std.proofs.Math.Option.{none}
-use Rattle.rules.specs.declared.Checked.{Checked}
-use Rattle.rules.specs.declared.Checked.TheVariants.{Refused}
-use Rattle.rules.specs.declared.Found.{Found}
-use Rattle.rules.specs.declared.Done.{Done}
-use Rattle.rules.specs.declared.certificate.Certified.{Certified}
+use Rattle.rules.specs.declared.Extent.{Extent}
+use Rattle.rules.specs.declared.Facts.{Facts}
+use Rattle.rules.specs.declared.Refusal.{Refusal}
+use Rattle.rules.specs.declared.certificate.Uncertified.{Uncertified}
+use Rattle.rules.specs.declared.certificate.Verdict.{Verdict}
+use Rattle.std.specs.Prelude.{Err, None, Result, ◌≡◌, ℕ, ◌+◌, ◌-◌, ◌≤◌, ◌<◌, Bool, true, false, List, length}
 use Rattle.rules.specs.declared.Refusal.TheVariants.{Entry}
 use Rattle.rules.specs.declared.CheckAnswer.{CheckAnswer}
 use Rattle.rules.specs.declared.FindAnswer.{FindAnswer}
@@ -39,7 +38,7 @@ IsFirstBad a at = FirstBad (header_of a).version a (header_of a).used_size at (f
 
 -- 1 to 7 do not refuse a list of an edition, and its first bad entry is at `at`
 pub record BadAt (ed : Edition) (editing : Bool) (a : List ℕ) (base at : ℕ) : Type 0 where
-  pub header : header_refusal ed editing base (length a) (header_of a) ≡ none
+  pub header : header_refusal ed editing base (length a) (header_of a) ≡ None
   pub checksum : refuses_checksum ed a ≡ false
   pub first : IsFirstBad a at
 
@@ -54,8 +53,8 @@ pub record Within (ed : Edition) (a : List ℕ) (at : ℕ) : Type 0 where
 -- "The walk's refusal is to carry the offset": a list of an edition is refused with 8 at a place exactly when 1 to 7 do not refuse it and its
 -- first bad entry is there
 pub record SaysWhere (ed : Edition) (editing : Bool) (a : List ℕ) (base at : ℕ) : Type 0 where
-  pub only : checks_of ed editing a base ≡ Refused (Entry at) → BadAt ed editing a base at
-  pub always : BadAt ed editing a base at → checks_of ed editing a base ≡ Refused (Entry at)
+  pub only : checks_of ed editing a base ≡ Err (Entry at) → BadAt ed editing a base at
+  pub always : BadAt ed editing a base at → checks_of ed editing a base ≡ Err (Entry at)
   pub within : BadAt ed editing a base at → Within ed a at
 
 -- ---- "every call that makes the check passes it up, but for the part forms"
@@ -72,21 +71,21 @@ done_bad_at at = record { number = 8; value = 0; at = at }
 
 -- of a current list: check, find and the certificate by the check; each edit by its admission, where a later version is 5 before
 pub record PassedUp (a : List ℕ) (base at : ℕ) : Type 0 where
-  pub checked : check a base ≡ Refused (Entry at) → check_answer (check a base) ≡ checked_bad_at at
-  pub found : check a base ≡ Refused (Entry at) → (tag n : ℕ) → find_answer (find a base tag n) ≡ found_bad_at at
-  pub certified : check a base ≡ Refused (Entry at) → (serial test : ℕ) → certified_answer (certify a base serial test) ≡ refused_answer 8 at
-  pub edited : admit a base ≡ Refused (Entry at) → (e : Edit) → done_answer (answer (run e a base)) ≡ done_bad_at at
+  pub checked : check a base ≡ Err (Entry at) → check_answer (check a base) ≡ checked_bad_at at
+  pub found : check a base ≡ Err (Entry at) → (tag n : ℕ) → find_answer (find a base tag n) ≡ found_bad_at at
+  pub certified : check a base ≡ Err (Entry at) → (serial test : ℕ) → certified_answer (certify a base serial test) ≡ refused_answer 8 at
+  pub edited : admit a base ≡ Err (Entry at) → (e : Edit) → done_answer (answer (run e a base)) ≡ done_bad_at at
 
 -- of a list of edition 0.9: check and find by the check, the conversion by its admission
 pub record PassedUp09 (a : List ℕ) (base at : ℕ) : Type 0 where
-  pub checked : check09 a base ≡ Refused (Entry at) → check_answer (check09 a base) ≡ checked_bad_at at
-  pub found : check09 a base ≡ Refused (Entry at) → (tag n : ℕ) → find_answer (find09 a base tag n) ≡ found_bad_at at
-  pub converted : admit09 a base ≡ Refused (Entry at) → (target : List ℕ) (target_base : ℕ)
+  pub checked : check09 a base ≡ Err (Entry at) → check_answer (check09 a base) ≡ checked_bad_at at
+  pub found : check09 a base ≡ Err (Entry at) → (tag n : ℕ) → find_answer (find09 a base tag n) ≡ found_bad_at at
+  pub converted : admit09 a base ≡ Err (Entry at) → (target : List ℕ) (target_base : ℕ)
       → done_answer (answer (convert a base target target_base)) ≡ done_bad_at at
 
 -- and the other way round: a call that answers 8 has it from its check, with the place that it answers
-abbrev pub EightFrom : Checked → ℕ → ℕ → Type 0
-EightFrom x number at = number ≡ 8 → x ≡ Refused (Entry at)
+abbrev pub EightFrom : Result Facts Refusal → ℕ → ℕ → Type 0
+EightFrom x number at = number ≡ 8 → x ≡ Err (Entry at)
 
 pub record OnlyPassedUp (a : List ℕ) (base : ℕ) : Type 0 where
   pub checked : let r : CheckAnswer = check_answer (check a base) in EightFrom (check a base) r.number r.at
@@ -105,7 +104,7 @@ pub record OnlyPassedUp09 (a : List ℕ) (base : ℕ) : Type 0 where
 
 -- whatever is answered: where the number is not 8, refused or not, the place is 0
 pub record ZeroElsewhere : Type 0 where
-  pub checked : (x : Checked) → ((check_answer x).number ≡ 8 → ⊥) → (check_answer x).at ≡ 0
-  pub found : (x : Found) → ((find_answer x).number ≡ 8 → ⊥) → (find_answer x).at ≡ 0
-  pub done : (x : Done) → ((done_answer x).number ≡ 8 → ⊥) → (done_answer x).at ≡ 0
-  pub certified : (x : Certified) → ((certified_answer x).number ≡ 8 → ⊥) → (certified_answer x).at ≡ 0
+  pub checked : (x : Result Facts Refusal) → ((check_answer x).number ≡ 8 → ⊥) → (check_answer x).at ≡ 0
+  pub found : (x : Result Extent Refusal) → ((find_answer x).number ≡ 8 → ⊥) → (find_answer x).at ≡ 0
+  pub done : (x : Result ℕ Refusal) → ((done_answer x).number ≡ 8 → ⊥) → (done_answer x).at ≡ 0
+  pub certified : (x : Result Verdict Uncertified) → ((certified_answer x).number ≡ 8 → ⊥) → (certified_answer x).at ≡ 0

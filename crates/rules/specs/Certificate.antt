@@ -1,19 +1,20 @@
 -- Document 02, request 5: the test certificate entry. Its fields, the reading, the gate, refusals 18, 19 and 20, and the answer.
 -- The floats are those of the language's own account of IEEE 754 (lib.Ieee): a value keeps the sign of zero, each number that the format
 -- holds is written in one way, and there is one value that is no number. So an equation between two numbers settles all 64 bits.
-use Rattle.std.specs.Prelude.{ℕ, ◌^◌, Bool, true, false, not, ◌&&◌, ◌||◌, cond, List, [], ◌∷◌, ltb, eqb, pos, Float}
+use Rattle.rules.specs.declared.Facts.{Facts}
+use Rattle.rules.specs.declared.Refusal.{Refusal}
+use Rattle.rules.specs.declared.certificate.Uncertified.{Uncertified}
+use Rattle.rules.specs.declared.certificate.Verdict.{Verdict}
+use Rattle.std.specs.Prelude.{Err, Ok, Result, ℕ, ◌^◌, Bool, true, false, not, ◌&&◌, ◌||◌, cond, List, [], ◌∷◌, ltb, eqb, pos, Float}
 use Rattle.std.specs.Float.{nan, inf, fin, binary64}
 use Rattle.std.specs.Float.Ieee.{of_bits, of_int, add, mul, lt, le}
 use Rattle.wire.specs.Bytes.{field}
 use Rattle.rules.specs.declared.Entry.{Entry}
-use Rattle.rules.specs.declared.Checked.{Checked}
-use Rattle.rules.specs.declared.Checked.TheVariants as checked
 use Rattle.rules.specs.declared.certificate.Certificate.{Certificate}
 use Rattle.rules.specs.declared.certificate.Calibration.{Calibration}
 use Rattle.rules.specs.declared.certificate.Gate.{Gate}
 use Rattle.rules.specs.declared.certificate.Gate.TheVariants.{Band, Ceiling, Floor}
-use Rattle.rules.specs.declared.certificate.Certified.{Certified}
-use Rattle.rules.specs.declared.certificate.Certified.TheVariants.{Read, Refused, NotOne, Another, Unsound}
+use Rattle.rules.specs.declared.certificate.Uncertified.TheVariants as uncertified
 use Rattle.rules.specs.declared.certificate.CertifiedAnswer.{CertifiedAnswer}
 use Rattle.rules.specs.Entries.{entries_of}
 use Rattle.rules.specs.Refusals.{number_of, place_of}
@@ -142,27 +143,27 @@ passes (Ceiling high) x = le x high
 passes (Floor low) x = le low x
 
 -- 20. "Otherwise the reading, and pass or fail"
-unfoldable pub judged : Certificate → Certified
-judged c = cond (refuses_contents c) Unsound (Read (reading_of c) (passes (gate_of c) (reading_of c)))
+unfoldable pub judged : Certificate → Result Verdict Uncertified
+judged c = cond (refuses_contents c) (Err uncertified.Unsound) (Ok (record { reading = reading_of c; pass = passes (gate_of c) (reading_of c) }))
 
 -- 19, then 20
-abbrev pub certified : ℕ → ℕ → Certificate → Certified
-certified serial test c = cond (refuses_identity serial test c) Another (judged c)
+abbrev pub certified : ℕ → ℕ → Certificate → Result Verdict Uncertified
+certified serial test c = cond (refuses_identity serial test c) (Err uncertified.Another) (judged c)
 
 -- 18 "unless exactly one entry of the list has this tag and that one is 56 bytes long", then 19: by the entries of a that have the tag
-abbrev pub certified_in : List ℕ → ℕ → ℕ → List Entry → Certified
-certified_in a serial test [] = NotOne
+abbrev pub certified_in : List ℕ → ℕ → ℕ → List Entry → Result Verdict Uncertified
+certified_in a serial test [] = Err uncertified.NotOne
 certified_in a serial test (e ∷ []) =
-    cond (not (eqb e.data_size certificate_size)) NotOne (certified serial test (certificate_of (live_at a e).content))
-certified_in a serial test (e ∷ f ∷ es) = NotOne
+    cond (not (eqb e.data_size certificate_size)) (Err uncertified.NotOne) (certified serial test (certificate_of (live_at a e).content))
+certified_in a serial test (e ∷ f ∷ es) = Err uncertified.NotOne
 
 -- a refused check ends the call there
-abbrev pub after_checks : Checked → Certified → Certified
-after_checks (checked.Accepted f) x = x
-after_checks (checked.Refused r) x = Refused r
+abbrev pub after_checks : Result Facts Refusal → Result Verdict Uncertified → Result Verdict Uncertified
+after_checks (Ok f) x = x
+after_checks (Err r) x = Err (uncertified.Refused r)
 
 -- "Refusals after 1 to 8, in this order"
-unfoldable pub certify : List ℕ → ℕ → ℕ → ℕ → Certified
+unfoldable pub certify : List ℕ → ℕ → ℕ → ℕ → Result Verdict Uncertified
 certify a base serial test = after_checks (check a base) (certified_in a serial test (tagged certificate_tag (entries_of a)))
 
 -- (document 01) "A refusal answers its number with every other number in the answer 0"; as amended by request 8, but for the place
@@ -170,9 +171,9 @@ abbrev pub refused_answer : ℕ → ℕ → CertifiedAnswer
 refused_answer n at = record { number = n; pass = 0; reading = plus_zero; at = at }
 
 -- the answer in numbers
-abbrev pub certified_answer : Certified → CertifiedAnswer
-certified_answer (Read x pass) = record { number = 0; pass = cond pass 1 0; reading = x; at = 0 }
-certified_answer (Refused r) = refused_answer (number_of r) (place_of r)
-certified_answer NotOne = refused_answer 18 0
-certified_answer Another = refused_answer 19 0
-certified_answer Unsound = refused_answer 20 0
+abbrev pub certified_answer : Result Verdict Uncertified → CertifiedAnswer
+certified_answer (Ok v) = record { number = 0; pass = cond v.pass 1 0; reading = v.reading; at = 0 }
+certified_answer (Err (uncertified.Refused r)) = refused_answer (number_of r) (place_of r)
+certified_answer (Err uncertified.NotOne) = refused_answer 18 0
+certified_answer (Err uncertified.Another) = refused_answer 19 0
+certified_answer (Err uncertified.Unsound) = refused_answer 20 0

@@ -1,5 +1,9 @@
 -- Document 01, "Demand 3's words": what holds of every edit that is not refused.
 use Rattle.std.specs.Prelude.{
+  None,
+  Ok,
+  Option,
+  Some,
   ◌≡◌,
   ℕ,
   ◌+◌,
@@ -26,11 +30,9 @@ use Rattle.std.specs.Prelude.{
   ltb,
   eqb,
 }
-use Rattle.std.proofs.Math.Option.{Option, none, some}
 use Rattle.rules.specs.declared.Entry.{Entry}
 use Rattle.rules.specs.declared.Facts.{Facts}
 use Rattle.rules.specs.declared.DoneAnswer.{DoneAnswer}
-use Rattle.rules.specs.declared.Checked.TheVariants.{Accepted}
 use Rattle.rules.specs.Header.{header_of, current_version, checksum_at, alignment_at, used_at, total_at}
 use Rattle.rules.specs.Entries.{is_void, span, data_offset, entries_of, live_count, occurrence, live_ones}
 use Rattle.rules.specs.Checksum.{fresh_checksum}
@@ -91,14 +93,14 @@ live_before p (e ∷ es) = cond (not (is_void e) && ltb e.at p) (1 + live_before
 
 -- "the number of live entries before the void taken, or of all live entries where none is taken"
 abbrev pub position : List ℕ → Option Entry → ℕ
-position a (some e) = live_before e.at (entries_of a)
-position a none = live_count (entries_of a)
+position a (Some e) = live_before e.at (entries_of a)
+position a None = live_count (entries_of a)
 
 -- the reading of the given list, changed by the edit; one that names no entry leaves it as it was
 abbrev pub changed : Edit → List ℕ → List Live → List Live
 changed (to_add tag content use_voids) a xs =
     put_in (position a (taken_void use_voids (length content) a)) (record { tag = tag; content = content }) xs
-changed (to_add_aligned tag content exponent) a xs = put_in (position a none) (record { tag = tag; content = content }) xs
+changed (to_add_aligned tag content exponent) a xs = put_in (position a None) (record { tag = tag; content = content }) xs
 changed (to_void tag n) a xs = take_out tag n xs
 changed (to_relocate target target_base) a xs = xs
 changed to_tidy a xs = xs
@@ -120,13 +122,13 @@ old_used_to_new a after = record { from = (header_of a).used_size; to = (header_
 
 -- "of a void taken, its first align8(8 + n) bytes and the eight header bytes of the void written behind them, if any"
 abbrev pub add_stretch : List ℕ → List ℕ → ℕ → Option Entry → Stretch
-add_stretch a after n (some e) = bytes_from e.at (entry_span n + length (void_behind e.data_size n))
-add_stretch a after n none = old_used_to_new a after
+add_stretch a after n (Some e) = bytes_from e.at (entry_span n + length (void_behind e.data_size n))
+add_stretch a after n None = old_used_to_new a after
 
 -- "of a voided entry, align8(8 + old data_size) bytes from its start"
 abbrev pub void_stretch : Option Entry → Stretch
-void_stretch (some e) = bytes_from e.at (entry_span e.data_size)
-void_stretch none = bytes_from 0 0
+void_stretch (Some e) = bytes_from e.at (entry_span e.data_size)
+void_stretch None = bytes_from 0 0
 
 -- request 3: "the voids' stretches"
 unfoldable pub void_stretches : List Entry → List Stretch
@@ -185,7 +187,7 @@ KeepsAddresses to_tidy a base after new_base = live_addresses new_base after ≡
 -- the list a at base is accepted, and of version 1
 pub record AcceptedV1 (a : List ℕ) (base : ℕ) : Type 0 where
   pub facts : Facts
-  pub accepted : check a base ≡ Accepted facts
+  pub accepted : check a base ≡ Ok facts
   pub version : facts.version ≡ current_version
 
 -- what holds, all at once, of the edit e of the list a at base that gives the list after at new_base

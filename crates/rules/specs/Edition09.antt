@@ -1,10 +1,11 @@
 -- Document 02, request 1, "Benches still on edition 0.9": lists as source 000 has them, their check and find, and the conversion into a
 -- current list with checksums on.
-use Rattle.std.specs.Prelude.{◌≡◌, ℕ, ◌+◌, ◌-◌, ◌%◌, ◌^◌, Bool, true, false, cond, List, ◌++◌, length, take, drop, get_or, ltb, eqb}
+use Rattle.rules.specs.declared.Extent.{Extent}
+use Rattle.rules.specs.declared.Facts.{Facts}
+use Rattle.rules.specs.declared.Refusal.{Refusal}
+use Rattle.std.specs.Prelude.{Result, ◌≡◌, ℕ, ◌+◌, ◌-◌, ◌%◌, ◌^◌, Bool, true, false, cond, List, ◌++◌, length, take, drop, get_or, ltb, eqb}
 use Rattle.wire.specs.Bytes.{sum}
 use Rattle.rules.specs.declared.Header.{Header}
-use Rattle.rules.specs.declared.Checked.{Checked}
-use Rattle.rules.specs.declared.Found.{Found}
 use Rattle.rules.specs.declared.Refusal.TheVariants.{Target, Room}
 use Rattle.rules.specs.declared.DoneAnswer.{DoneAnswer}
 use Rattle.rules.specs.Area.{down8}
@@ -33,10 +34,10 @@ edition09 = record { signature = 0x006ed0ff; header_size = 16; summed = sum_hold
 
 -- ---- "We need check and find for these"; "Entries are read as in a current list, with a tag of three bytes"
 
-abbrev pub check09 : List ℕ → ℕ → Checked
+abbrev pub check09 : List ℕ → ℕ → Result Facts Refusal
 check09 a base = checks_of edition09 false a base
 
-abbrev pub find09 : List ℕ → ℕ → ℕ → ℕ → Found
+abbrev pub find09 : List ℕ → ℕ → ℕ → ℕ → Result Extent Refusal
 find09 a base tag n = find_of edition09 a base tag n
 
 abbrev pub find_data09 : List ℕ → ℕ → ℕ → ℕ → List ℕ
@@ -45,7 +46,7 @@ find_data09 a base tag n = find_data_of edition09 a base tag n
 -- ---- "a conversion into a current list with checksums on"
 
 -- "Conversion gives 5 for a version over 1": the old list is admitted as to an edit
-abbrev pub admit09 : List ℕ → ℕ → Checked
+abbrev pub admit09 : List ℕ → ℕ → Result Facts Refusal
 admit09 a base = checks_of edition09 true a base
 
 -- a current header is 8 bytes longer

@@ -1,6 +1,5 @@
 -- Document 01, "Header and entries": an entry, what it must keep to, and the walk from entry to entry.
-use Rattle.std.specs.Prelude.{ℕ, zero, suc, ◌+◌, ◌-◌, Bool, not, ◌&&◌, ◌||◌, cond, List, [], ◌∷◌, ◌++◌, ltb, eqb}
-use Rattle.std.proofs.Math.Option.{Option, none, some}
+use Rattle.std.specs.Prelude.{None, Option, Some, ℕ, zero, suc, ◌+◌, ◌-◌, Bool, not, ◌&&◌, ◌||◌, cond, List, [], ◌∷◌, ◌++◌, ltb, eqb}
 use Rattle.wire.specs.Bytes.{field, le_bytes}
 use Rattle.rules.specs.declared.Header.{Header}
 use Rattle.rules.specs.declared.Entry.{Entry}
@@ -93,9 +92,9 @@ void_count (e ∷ es) = cond (is_void e) (1 + void_count es) (void_count es)
 
 -- occurrence n of a tag, counted from 0 in list order
 unfoldable pub occurrence : ℕ → ℕ → List Entry → Option Entry
-occurrence tag n [] = none
+occurrence tag n [] = None
 occurrence tag n (e ∷ es) =
-    cond (eqb e.tag_id tag) (cond (eqb n 0) (some e) (occurrence tag (n - 1) es)) (occurrence tag n es)
+    cond (eqb e.tag_id tag) (cond (eqb n 0) (Some e) (occurrence tag (n - 1) es)) (occurrence tag n es)
 
 -- the live ones of some entries
 unfoldable pub live_ones : List Entry → List Entry

@@ -1,24 +1,18 @@
 -- Document 01, "What a known tag may carry", as amended by requests 2 and 5: the tag table, which only the two adds use (refusal 10).
-use Rattle.std.specs.Prelude.{ℕ, Bool, false, ◌||◌, cond, List, [], ◌∷◌, ltb, eqb}
-use Rattle.std.proofs.Math.Option.{Option, none, some}
-
--- a row of the table: a tag, with the least and the greatest length of its data; none is no greatest
-pub record TagRow : Type 0 where
-  pub tag : ℕ
-  pub least : ℕ
-  pub most : Option ℕ
+use Rattle.std.specs.Prelude.{None, Option, Some, ℕ, Bool, false, ◌||◌, cond, List, [], ◌∷◌, ltb, eqb}
+use Rattle.rules.specs.declared.TagRow.{TagRow}
 
 -- a tag that may carry any length
 abbrev any : ℕ → TagRow
-any tag = record { tag = tag; least = 0; most = none }
+any tag = record { tag = tag; least = 0; most = None }
 
 -- a tag that carries n bytes or more
 abbrev at_least : ℕ → ℕ → TagRow
-at_least n tag = record { tag = tag; least = n; most = none }
+at_least n tag = record { tag = tag; least = n; most = None }
 
 -- a tag that carries exactly n bytes
 abbrev exactly : ℕ → ℕ → TagRow
-exactly n tag = record { tag = tag; least = n; most = some n }
+exactly n tag = record { tag = tag; least = n; most = Some n }
 
 -- the test certificate (request 5): "Tag 0xfff010 carries exactly 56 bytes"
 abbrev pub certificate_tag : ℕ
@@ -48,8 +42,8 @@ tag_table =
 
 -- a length is over the greatest, where there is one
 abbrev pub exceeds : ℕ → Option ℕ → Bool
-exceeds n none = false
-exceeds n (some most) = ltb most n
+exceeds n None = false
+exceeds n (Some most) = ltb most n
 
 -- a length is not one that the row allows
 abbrev pub breaks : TagRow → ℕ → Bool

@@ -1,5 +1,6 @@
 // The declared types of the test certificate and of the answer about it (document 02, request 5).
 ghost use Rattle.std.specs.Prelude.{◌≡◌};
+ghost use Rattle.rules.specs.declared.certificate.Uncertified.TheVariants as uncertified;
 ghost use Rattle.rules.specs.Certificate.{certified_answer, refused_answer};
 
 use crate::Refusal;
@@ -41,7 +42,7 @@ pub enum Gate {
 }
 
 impl Gate {
-    // The kinds' numbers.
+    // The kinds' numbers as a certificate's bytes have them; `Kind` of the crate certificate is made of them.
     pub const BAND: u32 = 1;
 
     pub const CEILING: u32 = 2;
@@ -49,10 +50,16 @@ impl Gate {
     pub const FLOOR: u32 = 3;
 }
 
-// The answer about a certificate: the reading and whether it passes; the refusal of the list; or the certificate's own refusals, 18 to 20.
+// What an accepted certificate comes to: its reading, and whether that passes.
 #[derive(Clone, Copy)]
-pub enum Certified {
-    Read { reading: f64, pass: bool },
+pub struct Verdict {
+    pub reading: f64,
+    pub pass: bool,
+}
+
+// Why there is no reading: the refusal of the list, or the certificate's own refusals, 18 to 20.
+#[derive(Clone, Copy, Debug, PartialEq, Eq)]
+pub enum Uncertified {
     Refused(Refusal),
     // 18 CERTIFICATE: not exactly one entry of the list has the tag, or that one is not 56 bytes long.
     NotOne,
@@ -62,8 +69,16 @@ pub enum Certified {
     Unsound,
 }
 
-// The answer in numbers: the refusal's number, 0 where not refused; the pass, 1 or 0; the reading. Where refused both are 0. The place is 0
-// in all but refusal 8.
+impl From<Refusal> for Uncertified {
+    ghost from_gives = { λ r e. e ≡ uncertified.Refused r };
+
+    fn from(r: Refusal) -> Uncertified {
+        Uncertified::Refused(r)
+    }
+}
+
+// The answer in numbers, a struct of C callers: the refusal's number, 0 where not refused; the pass, 1 or 0; the reading. Where refused both
+// are 0. The place is 0 in all but refusal 8.
 #[repr(C)]
 #[derive(Clone, Copy)]
 pub struct CertifiedAnswer {
@@ -85,25 +100,21 @@ fn refused(number: u32, at: u32) -> CertifiedAnswer
     }
 }
 
-impl Certified {
-    // The answer in numbers.
-    pub fn numbers(self) -> CertifiedAnswer
-        ensures { result ≡ certified_answer self }
-    {
-        match self {
-            Certified::Read { reading, pass } => {
-                let pass_number = pass as u32;
-                CertifiedAnswer {
-                    number: 0,
-                    pass: pass_number,
-                    reading,
-                    at: 0,
-                }
-            }
-            Certified::Refused(r) => refused(r.number(), r.place()),
-            Certified::NotOne => refused(18, 0),
-            Certified::Another => refused(19, 0),
-            Certified::Unsound => refused(20, 0),
+impl From<Result<Verdict, Uncertified>> for CertifiedAnswer {
+    ghost from_gives = { λ certified answer. answer ≡ certified_answer certified };
+
+    fn from(certified: Result<Verdict, Uncertified>) -> CertifiedAnswer {
+        match certified {
+            Ok(v) => CertifiedAnswer {
+                number: 0,
+                pass: v.pass.into(),
+                reading: v.reading,
+                at: 0,
+            },
+            Err(Uncertified::Refused(r)) => refused(r.into(), r.place()),
+            Err(Uncertified::NotOne) => refused(18, 0),
+            Err(Uncertified::Another) => refused(19, 0),
+            Err(Uncertified::Unsound) => refused(20, 0),
         }
     }
 }

@@ -2,9 +2,10 @@
 #![tactic(auto)]
 
 pub mod certificate;
+pub mod list;
 
 ghost use Rattle.std.specs.Prelude.{◌≡◌};
-ghost use Rattle.rules.specs.Header.{fresh_header};
+ghost use Rattle.rules.specs.Header.{fresh_header, has_checksum};
 ghost use Rattle.rules.specs.Refusals.{number_of, place_of};
 ghost use Rattle.rules.specs.Check.{check_answer};
 ghost use Rattle.rules.specs.Find.{find_answer};
@@ -56,9 +57,16 @@ impl Header {
             alignment: Header::ALIGNMENT,
             used_size: Header::SIZE as u32,
             total_size,
-            flags: has_checksum as u32,
+            flags: has_checksum.into(),
             reserved: 0,
         }
+    }
+
+    // Flag bit 0: the list has a checksum.
+    pub fn has_checksum(self) -> bool
+        ensures { result ≡ has_checksum self }
+    {
+        self.flags % 2 == 1
     }
 }
 
@@ -71,8 +79,16 @@ pub struct Entry {
     pub data_size: u32,
 }
 
-// Why a call is turned away.
+// A row of the tag table: a tag, with the least and the greatest length of its data; where there is no greatest, any longer one is allowed.
 #[derive(Clone, Copy)]
+pub struct TagRow {
+    pub tag: u32,
+    pub least: usize,
+    pub most: Option<usize>,
+}
+
+// Why a call is turned away.
+#[derive(Clone, Copy, Debug, PartialEq, Eq)]
 pub enum Refusal {
     Area,
     Short,
@@ -92,11 +108,23 @@ pub enum Refusal {
 }
 
 impl Refusal {
-    // The refusal's number in the table.
-    pub(crate) fn number(self) -> u32
-        ensures { result ≡ number_of self }
+    // The place in an answer: that of the first entry that breaks a rule; of every other refusal 0.
+    pub(crate) fn place(self) -> u32
+        ensures { result ≡ place_of self }
     {
         match self {
+            Refusal::Entry(at) => at,
+            _ => 0,
+        }
+    }
+}
+
+// The refusal's number in the table.
+impl From<Refusal> for u32 {
+    ghost from_gives = { λ r n. n ≡ number_of r };
+
+    fn from(r: Refusal) -> u32 {
+        match r {
             Refusal::Area => 1,
             Refusal::Short => 2,
             Refusal::Signature => 3,
@@ -113,28 +141,6 @@ impl Refusal {
             Refusal::Room => 14,
         }
     }
-
-    // The place in an answer: that of the first entry that breaks a rule; of every other refusal 0.
-    pub(crate) fn place(self) -> u32
-        ensures { result ≡ place_of self }
-    {
-        match self {
-            Refusal::Area => 0,
-            Refusal::Short => 0,
-            Refusal::Signature => 0,
-            Refusal::Version => 0,
-            Refusal::Readonly => 0,
-            Refusal::Sizes => 0,
-            Refusal::Checksum => 0,
-            Refusal::Entry(at) => at,
-            Refusal::Tag => 0,
-            Refusal::Shape => 0,
-            Refusal::Align => 0,
-            Refusal::Target => 0,
-            Refusal::None => 0,
-            Refusal::Room => 0,
-        }
-    }
 }
 
 // What an accepted check answers.
@@ -148,28 +154,15 @@ pub struct Facts {
     pub voids: u32,
 }
 
-// The answer of a check.
+// What an accepted find answers: the data's offset and size.
 #[derive(Clone, Copy)]
-pub enum Checked {
-    Accepted(Facts),
-    Refused(Refusal),
+pub struct Extent {
+    pub offset: u32,
+    pub size: u32,
 }
 
-// The answer of a find: the data's offset and size.
-#[derive(Clone, Copy)]
-pub enum Found {
-    At { offset: u32, size: u32 },
-    Refused(Refusal),
-}
-
-// The answer of create, of the edits and of the conversion: the total, an offset, the shift or the new used size.
-#[derive(Clone, Copy)]
-pub enum Done {
-    Value(u32),
-    Refused(Refusal),
-}
-
-// The three answers in numbers: the refusal's number, 0 where accepted; the values, all 0 where refused; and the place, 0 in all but refusal 8.
+// The answers in numbers, structs of C callers: the refusal's number, 0 where accepted; the values, all 0 where refused; and the place, 0 in all but refusal 8.
+// Create, the edits and the conversion answer one value: the total, an offset, the shift or the new used size.
 #[repr(C)]
 #[derive(Clone, Copy)]
 pub struct CheckAnswer {
@@ -200,13 +193,12 @@ pub struct DoneAnswer {
     pub at: u32,
 }
 
-impl Checked {
-    // The answer in numbers.
-    pub fn numbers(self) -> CheckAnswer
-        ensures { result ≡ check_answer self }
-    {
-        match self {
-            Checked::Accepted(f) => CheckAnswer {
+impl From<Result<Facts, Refusal>> for CheckAnswer {
+    ghost from_gives = { λ checked answer. answer ≡ check_answer checked };
+
+    fn from(checked: Result<Facts, Refusal>) -> CheckAnswer {
+        match checked {
+            Ok(f) => CheckAnswer {
                 number: 0,
                 version: f.version,
                 used: f.used,
@@ -216,8 +208,8 @@ impl Checked {
                 voids: f.voids,
                 at: 0,
             },
-            Checked::Refused(r) => CheckAnswer {
-                number: r.number(),
+            Err(r) => CheckAnswer {
+                number: r.into(),
                 version: 0,
                 used: 0,
                 total: 0,
@@ -230,20 +222,19 @@ impl Checked {
     }
 }
 
-impl Found {
-    // The answer in numbers.
-    pub fn numbers(self) -> FindAnswer
-        ensures { result ≡ find_answer self }
-    {
-        match self {
-            Found::At { offset, size } => FindAnswer {
+impl From<Result<Extent, Refusal>> for FindAnswer {
+    ghost from_gives = { λ found answer. answer ≡ find_answer found };
+
+    fn from(found: Result<Extent, Refusal>) -> FindAnswer {
+        match found {
+            Ok(x) => FindAnswer {
                 number: 0,
-                offset,
-                size,
+                offset: x.offset,
+                size: x.size,
                 at: 0,
             },
-            Found::Refused(r) => FindAnswer {
-                number: r.number(),
+            Err(r) => FindAnswer {
+                number: r.into(),
                 offset: 0,
                 size: 0,
                 at: r.place(),
@@ -252,19 +243,18 @@ impl Found {
     }
 }
 
-impl Done {
-    // The answer in numbers.
-    pub fn numbers(self) -> DoneAnswer
-        ensures { result ≡ done_answer self }
-    {
-        match self {
-            Done::Value(value) => DoneAnswer {
+impl From<Result<u32, Refusal>> for DoneAnswer {
+    ghost from_gives = { λ done answer. answer ≡ done_answer done };
+
+    fn from(done: Result<u32, Refusal>) -> DoneAnswer {
+        match done {
+            Ok(value) => DoneAnswer {
                 number: 0,
                 value,
                 at: 0,
             },
-            Done::Refused(r) => DoneAnswer {
-                number: r.number(),
+            Err(r) => DoneAnswer {
+                number: r.into(),
                 value: 0,
                 at: r.place(),
             },

@@ -1,73 +1,45 @@
 -- Recovery's decision, record by record from the last, comes to the rules'.
-use mathlib.Core.Path.{◌≡◌, refl, sym}
+use mathlib.Core.Path.{◌≡◌, refl, sym, ap}
 use Prim.Native.Nat.{ℕ, zero, suc, ◌+◌, ◌-◌, ◌*◌, ◌/◌, ◌≤◌, ◌<◌}
 use native.Mathlib.Omega.{arith}
 use mathlib.Core.Bool.{Bool, true, false, ◌&&◌, cond}
-use mathlib.Core.Option.{Option, none, some, map}
-use mathlib.Core.List.{List, [], ◌∷◌, ◌++◌}
+use Rattle.std.specs.Prelude.{Option, None, Some, option_map}
+use mathlib.Core.List.{List, ◌∷◌, ◌++◌}
 use lib.ListN.{length}
+use Rattle.std.specs.List.{list_all, range_with_len}
 use lib.Dec.{leb, eqb}
 use borrow.Author.Tests.{ne_eqb}
+use Rattle.journal.specs.Journal.{Memory, records, kind, Word, word_at, words_from, changed_words, apply_stores}
 use Rattle.wire.specs.Bytes.{field}
-use Rattle.journal.specs.Journal.{
-  Memory,
-  records,
-  kind,
-  Word,
-  word_at,
-  words_from,
-  changed_words,
-  apply_stores,
-  clear_stores,
-  kinds_up_to,
-  by_kind,
-  pending,
-  fits_in,
-  fits,
-  recovery_of,
-  refuses_journal,
-  recovery,
-}
+use Rattle.journal.specs.Journal.{clear_stores, kinds_up_to, by_kind, pending, fits, fits_in, recovery_of, refuses_journal, recovery}
 use Rattle.plan.specs.declared.Plan.{Plan}
 use Rattle.words.specs.Words.{next_offset}
 use Rattle.steps.specs.declared.Steps.{Steps}
 use Rattle.steps.specs.Steps.{carrying, to_word, edit_start, beginning, recover_start}
-use Rattle.steps.specs.Begin.{verdict_of, with_record, begin_with}
+use Rattle.steps.specs.declared.verdict.Verdict.{Verdict}
+use Rattle.steps.specs.declared.verdict.Verdict.TheVariants.{Nothing, Fits, Misfits}
+use Rattle.steps.specs.Begin.{verdict_of, with_misfit, with_record, begin_with}
 
--- ---- from the last record to the first
+-- ---- the kinds
 
--- behind the last record every test holds
-pub none_high : (most n i : ℕ) (j : List ℕ) → true ≡ kinds_up_to most (n - n) j i
-none_high most n i j = let e : n - n ≡ 0 = omega arith in rw e refl
+-- record by record from record i on
+pub kinds_listed : (most n i : ℕ) (j : List ℕ) → list_all (λ k. leb (kind j k) most) (range_with_len i n) ≡ kinds_up_to most n j i
+kinds_listed most zero i j = refl
+kinds_listed most (suc n) i j = ap (λ (b : Bool). leb (kind j i) most && b) (kinds_listed most n (i + 1) j)
 
--- with one record more in front
-pub kinds_back : (most n i : ℕ) (b : Bool) (j : List ℕ) → 0 < i → i ≤ n → b ≡ kinds_up_to most (n - i) j i
-    → (leb (kind j (i - 1)) most && b) ≡ kinds_up_to most (n - (i - 1)) j (i - 1)
-kinds_back most n i b j h g e =
-    let q : n - (i - 1) ≡ suc (n - i) = omega arith in
-    let f : i - 1 + 1 ≡ i = omega arith in
-    rw (q, f, e) refl
-
--- before the first record it is the whole test
-pub kinds_all : (most n i : ℕ) (b : Bool) (j : List ℕ) → i ≤ 0 → b ≡ kinds_up_to most (n - i) j i → b ≡ kinds_up_to most n j 0
-kinds_all most n i b j h e =
-    let z : i ≡ 0 = omega arith in
-    let q : n - 0 ≡ n = omega arith in
-    rw q at (rw z at e)
-
--- ---- the verdict likewise
+-- ---- the verdict
 
 verdict_one : (len k : ℕ) (w : Word) (r : Option (List Word))
-    → verdict_of len (by_kind k (map (λ (ws : List Word). w ∷ ws) r)) ≡ with_record k (fits_in len w.offset) (verdict_of len r)
+    → verdict_of len (by_kind k (option_map (λ (ws : List Word). w ∷ ws) r)) ≡ with_record k (fits_in len w.offset) (verdict_of len r)
 verdict_one len zero w r = refl
-verdict_one len (suc zero) w none = go (fits_in len w.offset)
+verdict_one len (suc zero) w None = go (fits_in len w.offset)
   where
-    go : (b : Bool) → ◌≡◌ {A = ℕ} 0 (cond b 0 0)
+    go : (b : Bool) → ◌≡◌ {A = Verdict} Nothing (cond b Nothing Nothing)
     go true = refl
     go false = refl
-verdict_one len (suc zero) w (some ws) = go (fits_in len w.offset) (fits len ws)
+verdict_one len (suc zero) w (Some ws) = go (fits_in len w.offset) (fits len ws)
   where
-    go : (a b : Bool) → ◌≡◌ {A = ℕ} (cond (a && b) 1 2) (cond a (cond b 1 2) (cond (eqb (cond b 1 2) 0) 0 2))
+    go : (a b : Bool) → ◌≡◌ {A = Verdict} (cond (a && b) Fits Misfits) (cond a (cond b Fits Misfits) (with_misfit (cond b Fits Misfits)))
     go true b = refl
     go false true = refl
     go false false = refl
@@ -76,21 +48,13 @@ verdict_one len (suc (suc (suc k))) w r =
     let q : ℕ = suc (suc (suc k)) in
     rw (ne_eqb q 1 (λ e. omega (arith, e)), ne_eqb q 2 (λ e. omega (arith, e)))
 
-pub no_verdict : (len n i : ℕ) (j : List ℕ) → 0 ≡ verdict_of len (pending (n - n) j i)
-no_verdict len n i j = let e : n - n ≡ 0 = omega arith in rw e refl
-
-pub verdict_back : (len n i v : ℕ) (j : List ℕ) → 0 < i → i ≤ n → v ≡ verdict_of len (pending (n - i) j i)
+-- with one record more in front
+pub verdict_back : (len n i : ℕ) (v : Verdict) (j : List ℕ) → 0 < i → i ≤ n → v ≡ verdict_of len (pending (n - i) j i)
     → with_record (kind j (i - 1)) (fits_in len (field j (16 * (i - 1) + 4) 4)) v ≡ verdict_of len (pending (n - (i - 1)) j (i - 1))
 verdict_back len n i v j h g e =
     let q : n - (i - 1) ≡ suc (n - i) = omega arith in
     let f : i - 1 + 1 ≡ i = omega arith in
     rw (q, f, e) (sym (verdict_one len (kind j (i - 1)) (word_at j (i - 1)) (pending (n - i) j i)))
-
-pub verdict_all : (len n i v : ℕ) (j : List ℕ) → i ≤ 0 → v ≡ verdict_of len (pending (n - i) j i) → v ≡ verdict_of len (pending n j 0)
-verdict_all len n i v j h e =
-    let z : i ≡ 0 = omega arith in
-    let q : n - 0 ≡ n = omega arith in
-    rw q at (rw z at e)
 
 -- ---- the decision
 
@@ -106,32 +70,27 @@ start_is m = outer (records m.journal)
     len = length m.area
 
     more : Option (List Word) → Option (List Word)
-    more r = map (λ (ws : List Word). word_at j 0 ∷ ws) r
+    more r = option_map (λ (ws : List Word). word_at j 0 ∷ ws) r
 
     inner : (low : Bool) (n k : ℕ) (r : Option (List Word))
         → begin_with low (suc n) (verdict_of len (by_kind k (more r))) (eqb k 1)
-        ≡ beginning (cond low (recovery_of len (clear_stores 0 (suc n)) (by_kind k (more r))) none)
+        ≡ beginning (cond low (recovery_of len (clear_stores 0 (suc n)) (by_kind k (more r))) None)
     inner false n k r = refl
     inner true n zero r = rw (ne_eqb (suc n) 0 (λ e. omega (arith, e)))
-    inner true n (suc zero) none = rw (ne_eqb (suc n) 0 (λ e. omega (arith, e)))
-    inner true n (suc zero) (some ws) = last (fits len (word_at j 0 ∷ ws))
+    inner true n (suc zero) None = rw (ne_eqb (suc n) 0 (λ e. omega (arith, e)))
+    inner true n (suc zero) (Some ws) = last (fits len (word_at j 0 ∷ ws))
       where
         last : (b : Bool)
-            → begin_with true (suc n) (cond b 1 2) true ≡ beginning (cond b (some (apply_stores (word_at j 0 ∷ ws) ++ clear_stores 0 (suc n))) none)
+            → begin_with true (suc n) (cond b Fits Misfits) true ≡ beginning (cond b (Some (apply_stores (word_at j 0 ∷ ws) ++ clear_stores 0 (suc n))) None)
         last true = rw (ne_eqb (suc n) 0 (λ e. omega (arith, e)))
         last false = refl
     inner true n (suc (suc zero)) r = rw (ne_eqb (suc n) 0 (λ e. omega (arith, e)))
     inner true n (suc (suc (suc k))) r = rw (ne_eqb (suc n) 0 (λ e. omega (arith, e)))
 
     outer : (n : ℕ) → begin_with (kinds_up_to 2 n j 0) n (verdict_of len (pending n j 0)) (eqb (kind j 0) 1)
-        ≡ beginning (cond (kinds_up_to 2 n j 0) (recovery_of len (clear_stores 0 n) (pending n j 0)) none)
+        ≡ beginning (cond (kinds_up_to 2 n j 0) (recovery_of len (clear_stores 0 n) (pending n j 0)) None)
     outer zero = refl
     outer (suc n) = inner (kinds_up_to 2 (suc n) j 0) n (kind j 0) (pending n j 1)
-
--- an empty journal has no word first
-pub no_word : (j : List ℕ) → length j ≤ 0 → false ≡ eqb (kind j 0) 1
-no_word [] h = refl
-no_word (b ∷ j) h = absurd (omega arith)
 
 -- the words from the area's first byte on are all that change
 all_words : (old new : List ℕ) → words_from ((length old - 0) / 8) 0 old new ≡ changed_words old new

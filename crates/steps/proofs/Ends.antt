@@ -3,12 +3,14 @@ use mathlib.Core.Path.{◌≡◌, refl, sym, ap, ◌∙◌}
 use Prim.Native.Nat.{ℕ, zero, suc, ◌≤◌, ◌<◌}
 use native.Mathlib.Omega.{arith}
 use native.Mathlib.Decide.{ℕ_discrete}
+use mathlib.Core.Bool.{false}
 use mathlib.Core.List.{List, [], ◌∷◌}
 use lib.ListN.{length, take}
 use lib.Dec.{eqb}
 use borrow.Author.Tests.{eq-eqb, ne_eqb}
+use Rattle.std.proofs.lemmas.Bool.{eqb-false}
 use Rattle.journal.specs.Journal.{Store, Memory, memory, store, store_all, records}
-use Rattle.journal.proofs.Stores.{length-journal, length-area, same_records}
+use Rattle.journal.proofs.Stores.{same_records}
 use Rattle.rules.specs.declared.DoneAnswer.{DoneAnswer}
 use Rattle.steps.specs.declared.Steps.{Steps}
 use Rattle.steps.specs.declared.Stepped.{Stepped}
@@ -112,16 +114,13 @@ module _ (content : List ℕ) where
 pub reported : (s : Steps) → (report s).state ≡ s
 reported s = choose (λ (r : Stepped). r.state ≡ s) (eqb s.phase at_end) (λ _. refl) (λ _. refl)
 
-module _ (content : List ℕ) (s t : Steps) (j a j' a' : List ℕ) (e : t ≡ (step_of content s (memory j a)).next)
-    (f : memory j' a' ≡ stepped content s (memory j a)) where
-  pub turn_ends : (s.phase ≡ at_end → ⊥) → to_end content s (memory j a) ≡ to_end content t (memory j' a')
-  turn_ends n = rw (e, f) (to-end_step content s (memory j a) n)
+module _ (content : List ℕ) (s : Steps) (r : Stepped) (j a j' a' : List ℕ) (e : r ≡ report (step_of content s (memory j a)).next)
+    (f : memory j' a' ≡ stepped content s (memory j a)) (n : eqb s.phase at_end ≡ false) where
+  left_by : r.state ≡ (step_of content s (memory j a)).next
+  left_by = ap (λ (x : Stepped). x.state) e ∙ reported _
 
-  pub turn_less : (s.phase ≡ at_end → ⊥) → left (records j') t < left (records j) s
-  turn_less n = rw (e, ap (λ (m : Memory). m.journal) f) (less content s (memory j a) n)
+  pub turn_ends : to_end content s (memory j a) ≡ to_end content r.state (memory j' a')
+  turn_ends = rw (left_by, f) (to-end_step content s (memory j a) (eqb-false s.phase at_end n))
 
-  pub turn_area : length a' ≡ length a
-  turn_area = ap (λ (m : Memory). length m.area) f ∙ length-area (stored (step_of content s (memory j a)).store) (memory j a)
-
-  pub turn_journal : length j' ≡ length j
-  turn_journal = ap (λ (m : Memory). length m.journal) f ∙ length-journal (stored (step_of content s (memory j a)).store) (memory j a)
+  pub turn_less : left (records j') r.state < left (records j) s
+  turn_less = rw (left_by, ap (λ (m : Memory). m.journal) f) (less content s (memory j a) (eqb-false s.phase at_end n))

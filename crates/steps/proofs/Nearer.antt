@@ -8,13 +8,14 @@ use mathlib.Core.List.{List}
 use lib.ListN.{length, get_or}
 use lib.Seq.{get_or-set_other}
 use lib.Dec.{ltb, leb, eqb}
+use Rattle.std.specs.Prelude.{Option, Some, None}
 use borrow.Author.Tests.{ltb-true, ltb-false, ne_eqb}
 use Rattle.wire.specs.Bytes.{field}
 use Rattle.journal.specs.Journal.{Memory, store_all, records, kind}
 use Rattle.journal.proofs.Clearing.{and_left, and_right}
 use Rattle.steps.specs.declared.Steps.{Steps}
 use Rattle.steps.specs.declared.Store.{Store}
-use Rattle.steps.specs.declared.Store.TheVariants.{Nothing, Journal, Area}
+use Rattle.steps.specs.declared.Store.TheVariants.{Journal, Area}
 use Rattle.steps.specs.declared.Step.{Step}
 use Rattle.steps.specs.Steps.{
   writing,
@@ -46,10 +47,10 @@ choose P true f g = f refl
 choose P false f g = g refl
 
 -- a store is none, or in the first n records of the journal, or in the area
-abbrev Within : ℕ → Store → Type 0
-Within n Nothing = Unit {0}
-Within n (Journal at value) = at < 16 * n
-Within n (Area at value) = Unit {0}
+abbrev Within : ℕ → Option Store → Type 0
+Within n None = Unit {0}
+Within n (Some (Journal at value)) = at < 16 * n
+Within n (Some (Area at value)) = Unit {0}
 
 -- what holds of a step from s, with n whole records
 pub record Nearer (n : ℕ) (s : Steps) (d : Step) : Type 0 where
@@ -173,11 +174,11 @@ nearer content s m = go s.phase
 -- ---- odd bytes
 
 -- bytes behind the whole records are kept by a store within them
-kept_behind : (d : Store) (m : Memory) (p : ℕ) → Within (records m.journal) d → 16 * records m.journal ≤ p
+kept_behind : (d : Option Store) (m : Memory) (p : ℕ) → Within (records m.journal) d → 16 * records m.journal ≤ p
     → get_or (store_all (stored d) m).journal p 0 ≡ get_or m.journal p 0
-kept_behind Nothing m p w h = refl
-kept_behind (Journal at value) m p w h = get_or-set_other m.journal at p value 0 (λ z. omega (arith, z))
-kept_behind (Area at value) m p w h = refl
+kept_behind None m p w h = refl
+kept_behind (Some (Journal at value)) m p w h = get_or-set_other m.journal at p value 0 (λ z. omega (arith, z))
+kept_behind (Some (Area at value)) m p w h = refl
 
 -- Odd bytes behind the whole records are written by no step, on any state.
 pub odd_kept : (content : List ℕ) (s : Steps) (m : Memory) (p : ℕ) → 16 * records m.journal ≤ p

@@ -3,7 +3,7 @@ use mathlib.Core.Path.{◌≡◌, refl, ap, ◌∙◌}
 use Prim.Native.Nat.{ℕ, zero, suc, ◌+◌, ◌%◌, ◌<◌}
 use native.Mathlib.Omega.{arith}
 use mathlib.Core.Bool.{Bool, true, false, ◌&&◌, cond}
-use mathlib.Core.Option.{Option, none, some, map}
+use Rattle.std.specs.Prelude.{Option, None, Some, option_map}
 use mathlib.Core.List.{List, [], ◌∷◌, ◌++◌}
 use lib.ListN.{length, take}
 use lib.Dec.{leb, eqb}
@@ -64,15 +64,15 @@ use Rattle.steps.proofs.Ends.{to-end-rest, goes_end, goes_after}
 
 -- ---- what a recovery finds
 
-pending_committed : (n : ℕ) (j : List ℕ) (i : ℕ) (ws : List Word) → pending n j i ≡ some ws → Committed j i ws × (length ws < n)
+pending_committed : (n : ℕ) (j : List ℕ) (i : ℕ) (ws : List Word) → pending n j i ≡ Some ws → Committed j i ws × (length ws < n)
 pending_committed zero j i ws e = absurd (let z : ◌≡◌ {A = ℕ} 0 1 = cc in omega arith)
 pending_committed (suc n) j i ws e = go (kind j i) refl (pending n j (i + 1)) (pending_committed n j (i + 1)) e
   where
-    go : (k : ℕ) → kind j i ≡ k → (r : Option (List Word)) → ((vs : List Word) → r ≡ some vs → Committed j (i + 1) vs × (length vs < n))
-        → by_kind k (map (λ (ws : List Word). word_at j i ∷ ws) r) ≡ some ws → Committed j i ws × (length ws < suc n)
+    go : (k : ℕ) → kind j i ≡ k → (r : Option (List Word)) → ((vs : List Word) → r ≡ Some vs → Committed j (i + 1) vs × (length vs < n))
+        → by_kind k (option_map (λ (ws : List Word). word_at j i ∷ ws) r) ≡ Some ws → Committed j i ws × (length ws < suc n)
     go zero ek r er e = absurd (let z : ◌≡◌ {A = ℕ} 0 1 = cc in omega arith)
-    go (suc zero) ek none er e = absurd (let z : ◌≡◌ {A = ℕ} 0 1 = cc in omega arith)
-    go (suc zero) ek (some vs) er e =
+    go (suc zero) ek None er e = absurd (let z : ◌≡◌ {A = ℕ} 0 1 = cc in omega arith)
+    go (suc zero) ek (Some vs) er e =
         let f : ws ≡ word_at j i ∷ vs = cc in
         let ih : Committed j (i + 1) vs × (length vs < n) = er vs refl in
         rw f ((ek, refl, ih.0), omega arith)
@@ -93,26 +93,26 @@ fits_fine len (w ∷ ws) j i h f =
 
 -- ---- its steps
 
-refused_start : (m : Memory) → recovery m ≡ none → recover_start m ≡ stopped (refusal_answer 17)
+refused_start : (m : Memory) → recovery m ≡ None → recover_start m ≡ stopped (refusal_answer 17)
 unfolding recover_start
 refused_start m e = rw e refl
 
 module _ (other : List ℕ) where
   from_clear : (n : ℕ) (m : Memory) → records m.journal ≡ n
-      → Goes other (beginning (some (clear_stores 0 n))) m (clear_stores 0 n) (stopped (value_answer 0))
+      → Goes other (beginning (Some (clear_stores 0 n))) m (clear_stores 0 n) (stopped (value_answer 0))
   from_clear zero m e = refl
   from_clear (suc n) m e = clear_all other (stopped (value_answer 0)) (suc n) 0 m (omega arith) e
 
   from-words : (ws : List Word) (n : ℕ) (m : Memory) → records m.journal ≡ n → Committed m.journal 0 ws → length ws < n
       → fits (length m.area) ws ≡ true
-      → Goes other (beginning (some (apply_stores ws ++ clear_stores 0 n))) m (apply_stores ws ++ clear_stores 0 n) (stopped (value_answer 0))
+      → Goes other (beginning (Some (apply_stores ws ++ clear_stores 0 n))) m (apply_stores ws ++ clear_stores 0 n) (stopped (value_answer 0))
   from-words [] n m e h k f = from_clear n m e
   from-words (w ∷ ws) n m e h k f =
-      let s : beginning (some (apply_stores (w ∷ ws) ++ clear_stores 0 n)) ≡ stand (stopped (value_answer 0)) applying 0 0 0 = rw (← h.1) refl in
+      let s : beginning (Some (apply_stores (w ∷ ws) ++ clear_stores 0 n)) ≡ stand (stopped (value_answer 0)) applying 0 0 0 = rw (← h.1) refl in
       rw s (goes_tail other (stopped (value_answer 0)) w ws n (length m.area) m h (fits_fine (length m.area) (w ∷ ws) m.journal 0 h f) refl k e)
 
   -- From where the decision begins, the steps of a recovery store exactly the rules' bytes, on any journal that is not refused.
-  pub goes_recovery : (m : Memory) (l : List Store) → recovery m ≡ some l → Goes other (recover_start m) m l (stopped (value_answer 0))
+  pub goes_recovery : (m : Memory) (l : List Store) → recovery m ≡ Some l → Goes other (recover_start m) m l (stopped (value_answer 0))
   unfolding recovery recover_start
   goes_recovery m l e = rw e (go (kinds_up_to 2 n j 0) (pending n j 0) refl e)
     where
@@ -122,16 +122,16 @@ module _ (other : List ℕ) where
       n : ℕ
       n = records j
 
-      go : (ok : Bool) (r : Option (List Word)) → pending n j 0 ≡ r → cond ok (recovery_of (length m.area) (clear_stores 0 n) r) none ≡ some l
-          → Goes other (beginning (some l)) m l (stopped (value_answer 0))
+      go : (ok : Bool) (r : Option (List Word)) → pending n j 0 ≡ r → cond ok (recovery_of (length m.area) (clear_stores 0 n) r) None ≡ Some l
+          → Goes other (beginning (Some l)) m l (stopped (value_answer 0))
       go false r er e = absurd (let z : ◌≡◌ {A = ℕ} 0 1 = cc in omega arith)
-      go true none er e =
+      go true None er e =
           let f : l ≡ clear_stores 0 n = cc in
           rw f (from_clear n m refl)
-      go true (some ws) er e = last (fits (length m.area) ws) refl e
+      go true (Some ws) er e = last (fits (length m.area) ws) refl e
         where
-          last : (b : Bool) → fits (length m.area) ws ≡ b → cond b (some (apply_stores ws ++ clear_stores 0 n)) none ≡ some l
-              → Goes other (beginning (some l)) m l (stopped (value_answer 0))
+          last : (b : Bool) → fits (length m.area) ws ≡ b → cond b (Some (apply_stores ws ++ clear_stores 0 n)) None ≡ Some l
+              → Goes other (beginning (Some l)) m l (stopped (value_answer 0))
           last false ef e = absurd (let z : ◌≡◌ {A = ℕ} 0 1 = cc in omega arith)
           last true ef e =
               let f : l ≡ apply_stores ws ++ clear_stores 0 n = cc in
@@ -144,8 +144,8 @@ module _ (other : List ℕ) where
   recover_is m = go (recovery m) refl
     where
       go : (o : Option (List Store)) → recovery m ≡ o → to_end other (recover_start m) m ≡ ended (recovery_answer o) (store_all (stores_of o) m)
-      go none e = ap (λ (s : Steps). to_end other s m) (refused_start m e) ∙ to-end-rest other (stopped (refusal_answer 17)) m refl
-      go (some l) e = goes_end other l (recover_start m) m (value_answer 0) (goes_recovery m l e)
+      go None e = ap (λ (s : Steps). to_end other s m) (refused_start m e) ∙ to-end-rest other (stopped (refusal_answer 17)) m refl
+      go (Some l) e = goes_end other l (recover_start m) m (value_answer 0) (goes_recovery m l e)
 
   -- cut after k steps, it has stored the first k bytes
   after-recovery : (k : ℕ) (m : Memory) → after_steps k other (recover_start m) m ≡ store_all (take k (stores_of (recovery m))) m
@@ -153,8 +153,8 @@ module _ (other : List ℕ) where
   after-recovery k m = go (recovery m) refl
     where
       go : (o : Option (List Store)) → recovery m ≡ o → after_steps k other (beginning (recovery m)) m ≡ store_all (take k (stores_of o)) m
-      go none e = rw e (goes_after other k [] (beginning none) m _ refl)
-      go (some l) e = goes_after other k l (recover_start m) m (value_answer 0) (goes_recovery m l e)
+      go None e = rw e (goes_after other k [] (beginning None) m _ refl)
+      go (Some l) e = goes_after other k l (recover_start m) m (value_answer 0) (goes_recovery m l e)
 
   pub same_cuts : (ks : List ℕ) (m : Memory) → recoveries_stepped other ks m ≡ recoveries_cut ks m
   unfolding recoveries_stepped recoveries_cut

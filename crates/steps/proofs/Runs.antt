@@ -7,6 +7,7 @@ use mathlib.Core.Bool.{Bool, true, false, ◌&&◌, cond}
 use mathlib.Core.List.{List, [], ◌∷◌, ◌++◌}
 use lib.ListN.{length, get_or, replicate, length-set}
 use lib.Dec.{ltb, eqb}
+use Rattle.std.specs.Prelude.{Some}
 use borrow.Author.Tests.{lt-ltb, le-ltb, le-leb, eq-eqb, ne_eqb}
 use Rattle.wire.specs.Bytes.{field, le_bytes}
 use Rattle.journal.specs.Journal.{
@@ -35,7 +36,7 @@ use Rattle.journal.specs.Journal.{
 use Rattle.journal.proofs.Stores.{length-area, same_records, journal_kept, area_kept, rising-area, rising-journal}
 use Rattle.journal.proofs.Recovery.{Committed, apply_area}
 use Rattle.journal.proofs.Records.{AllFine, length_body, record_journal, only-journal, journal_committed}
-use Rattle.journal.proofs.Words.{get_d_part, Next, done, more, next}
+use Rattle.journal.proofs.Words.{get_or_part, Next, done, more, next}
 use Rattle.journal.proofs.PowerCut.{changed_fine}
 use Rattle.plan.specs.Plan.{after}
 use Rattle.words.specs.Words.{next_offset}
@@ -81,11 +82,11 @@ module _ (content : List ℕ) (s : Steps) where
   unfolding step_of clear_step
   goes_clear zero i w m e =
       goes_one content (stand s clearing i 0 w) (stopped s.done) (stopped s.done) m (in_journal (16 * i) 0) []
-      (record { store = Journal (16 * i) 0; next = stopped s.done })
+      (record { store = Some (Journal (16 * i) 0); next = stopped s.done })
       (rw (lt-ltb i (records m.journal) (omega arith), le-ltb (i + 1) (records m.journal) (omega arith))) refl refl refl
   goes_clear (suc k) i w m e =
       goes_one content (stand s clearing i 0 w) (stand s clearing (i + 1) 0 w) (stopped s.done) m (in_journal (16 * i) 0) (clear_stores (i + 1) (suc k))
-      (record { store = Journal (16 * i) 0; next = stand s clearing (i + 1) 0 w })
+      (record { store = Some (Journal (16 * i) 0); next = stand s clearing (i + 1) 0 w })
       (rw (lt-ltb i (records m.journal) (omega arith), lt-ltb (i + 1) (records m.journal) (omega arith))) refl refl
       (goes_clear k (i + 1) w (store (in_journal (16 * i) 0) m) (rw length-set (omega arith)))
 
@@ -114,7 +115,7 @@ module _ (content : List ℕ) (s : Steps) where
 
   -- a byte of a word that is applied
   applied : ℕ → ℕ → Steps → Step
-  applied at v n = record { store = Area at v; next = n }
+  applied at v n = record { store = Some (Area at v); next = n }
 
   apply_step_lem : (i b x : ℕ) (m : Memory) → i < records m.journal → b < 8 → field m.journal (16 * i + 4) 4 + 8 ≤ length m.area
       → step_of content (stand s applying i b x) m
@@ -161,7 +162,7 @@ module _ (content : List ℕ) (s : Steps) where
       let z : o + 0 ≡ w.offset = add-zero o ∙ eo in
       let r : Goes content (stand s applying i 0 x) m (rising in_area (o + 0) (part j (16 * i + 8) 8)) (after_apply (stand s applying i 7 x) j) =
       goes_bytes i x 0 (part j (16 * i + 8) 8) m h (omega arith) refl (omega arith)
-      (λ t k. get_d_part 8 j (16 * i + 8) t k ∙ ap (λ (n : ℕ). get_or j (16 * i + 8 + n) 0) (let q : t ≡ 0 + t = omega arith in q)) in
+      (λ t k. get_or_part 8 j (16 * i + 8) t k ∙ ap (λ (n : ℕ). get_or j (16 * i + 8 + n) 0) (let q : t ≡ 0 + t = omega arith in q)) in
       rw (← z, ← eb) r
 
   pub goes_apply : (w : Word) (ws : List Word) (i x len : ℕ) (m : Memory) → Committed m.journal i (w ∷ ws) → i + suc (length ws) < records m.journal
@@ -192,7 +193,7 @@ module _ (content : List ℕ) (s : Steps) where
 
 -- a byte of a record, at its place
 written : ℕ → ℕ → ℕ → Steps → Step
-written i k v n = record { store = Journal (16 * i + k) v; next = n }
+written i k v n = record { store = Some (Journal (16 * i + k) v); next = n }
 
 module _ (content : List ℕ) (S : ℕ → Steps) (i n : ℕ) (old body : List ℕ)
     (h : (b : ℕ) (m : Memory) → b < 15 → m.area ≡ old → records m.journal ≡ n → step_of content (S b) m ≡ written i (b + 1) (get_or body b 0) (S (b + 1)))
@@ -278,7 +279,7 @@ module _ (content : List ℕ) (s : Steps) (old : List ℕ) (can : can_write s (l
   word_tests : (i b w : ℕ) (m : Memory) → m.area ≡ old → b < 16 → i < records m.journal → w % 8 ≡ 0 → w + 8 ≤ length old
       → step_of content (stand s writing i b w) m
       ≡ record {
-        store = Journal (16 * i + cond (ltb b 15) (b + 1) 0) (get_or (1 ∷ body_of w (part new w 8)) (cond (ltb b 15) (b + 1) 0) 0);
+        store = Some (Journal (16 * i + cond (ltb b 15) (b + 1) 0) (get_or (1 ∷ body_of w (part new w 8)) (cond (ltb b 15) (b + 1) 0) 0));
         next = after_word (stand s writing i b w) old new;
       }
   unfolding step_of word_step new

@@ -1,6 +1,6 @@
 -- What the tests of a state tell, and the bytes of a word record.
 use mathlib.Core.Path.{◌≡◌, refl, ap, ◌∙◌}
-use Prim.Native.Nat.{ℕ, zero, suc, ◌+◌, ◌-◌, ◌%◌, ◌^◌, ◌≤◌, ◌<◌}
+use Prim.Native.Nat.{ℕ, ◌+◌, ◌-◌, ◌%◌, ◌^◌, ◌≤◌, ◌<◌}
 use native.Mathlib.Omega.{arith}
 use mathlib.Core.Bool.{Bool, true, false, ◌&&◌, ◌||◌}
 use mathlib.Core.List.{List, [], ◌∷◌, ◌++◌}
@@ -14,7 +14,7 @@ use Rattle.journal.proofs.Clearing.{and_left, and_right}
 use Rattle.plan.specs.declared.Plan.{Plan}
 use Rattle.plan.specs.Plan.{void_span}
 use Rattle.words.specs.Words.{Writable}
-use Rattle.words.proofs.Laws.{get_d_front, get_or_back}
+use Rattle.words.proofs.Laws.{get_or_front, get_or_back}
 use Rattle.steps.specs.declared.Steps.{Steps}
 use Rattle.steps.specs.Steps.{plan_of, carrying, can_write}
 
@@ -88,20 +88,13 @@ can_carry p len n w c a =
 
 -- ---- the bytes of a word record
 
-pub word_zero : (k w : ℕ) (bytes : List ℕ) → (k ≡ 0 → ⊥) → k < 4 → get_or (1 ∷ body_of w bytes) k 0 ≡ 0
-word_zero zero w bytes h g = absurd (h refl)
-word_zero (suc zero) w bytes h g = refl
-word_zero (suc (suc zero)) w bytes h g = refl
-word_zero (suc (suc (suc zero))) w bytes h g = refl
-word_zero (suc (suc (suc (suc k)))) w bytes h g = absurd (omega arith)
-
 behind_four : (k w : ℕ) (bytes : List ℕ) → 4 ≤ k → get_or (1 ∷ body_of w bytes) k 0 ≡ get_or (le_bytes 4 w ++ bytes) (k - 4) 0
 behind_four k w bytes h = get_or_back (1 ∷ 0 ∷ 0 ∷ 0 ∷ []) (le_bytes 4 w ++ bytes) 4 k refl h
 
 pub word_offset : (k w : ℕ) (bytes : List ℕ) → 4 ≤ k → k < 8 → get_or (1 ∷ body_of w bytes) k 0 ≡ get_or (le_bytes 4 (w % 2 ^ 32)) (k - 4) 0
 word_offset k w bytes h g =
     behind_four k w bytes h
-    ∙ get_d_front (le_bytes 4 w) bytes 4 (k - 4) (length-le_bytes 4 w) (omega arith)
+    ∙ get_or_front (le_bytes 4 w) bytes 4 (k - 4) (length-le_bytes 4 w) (omega arith)
     ∙ ap (λ (l : List ℕ). get_or l (k - 4) 0) (sym_mod w)
   where
     sym_mod : (w : ℕ) → le_bytes 4 w ≡ le_bytes 4 (w % 2 ^ 32)

@@ -1,20 +1,32 @@
 -- Document 02, request 9: "Edit and recovery are also offered as steps of one stored byte each, every step's result fixed". A step on any state
 -- and any buffers; what it answers; where an edit and a recovery begin; and the steps run to the end.
-use Rattle.std.specs.Prelude.{ℕ, zero, suc, ◌+◌, ◌-◌, ◌*◌, ◌/◌, ◌%◌, Bool, ◌&&◌, ◌||◌, cond, List, [], ◌∷◌, length, get_or, leb, ltb, eqb}
-use Rattle.std.proofs.Math.Option.{Option, none, some}
+use Rattle.std.specs.Prelude.{Some, None, ℕ, zero, suc, ◌+◌, ◌-◌, ◌*◌, ◌/◌, ◌%◌, Bool, ◌&&◌, ◌||◌, cond, List, [], ◌∷◌, length, get_or, leb, ltb, eqb, Option}
 use Rattle.wire.specs.Bytes.{field}
 use Rattle.rules.specs.declared.DoneAnswer.{DoneAnswer}
 use Rattle.rules.specs.Header.{header_size, entry_header_size}
 use Rattle.journal.specs.Journal as journal
-use Rattle.journal.specs.Journal.{Memory, in_journal, in_area, store_all, records, kind, part, words_from, changed_words, body_of}
-use Rattle.journal.specs.Journal.{refuses_journal, recovery, stores_of}
+use Rattle.journal.specs.Journal.{
+  Memory,
+  in_journal,
+  in_area,
+  store_all,
+  records,
+  kind,
+  part,
+  words_from,
+  changed_words,
+  body_of,
+  refuses_journal,
+  recovery,
+  stores_of,
+}
 use Rattle.plan.specs.declared.Plan.{Plan}
 use Rattle.plan.specs.Plan.{after}
 use Rattle.words.specs.Words.{next_offset}
 use Rattle.steps.specs.declared.Steps.{Steps}
 use Rattle.steps.specs.declared.Stepped.{Stepped}
 use Rattle.steps.specs.declared.Store.{Store}
-use Rattle.steps.specs.declared.Store.TheVariants.{Nothing, Journal, Area}
+use Rattle.steps.specs.declared.Store.TheVariants.{Journal, Area}
 use Rattle.steps.specs.declared.Step.{Step}
 
 -- ---- states
@@ -119,14 +131,14 @@ can_write s len n =
 -- ---- what a step does
 
 -- the stores of the rules
-abbrev pub stored : Store → List journal.Store
-stored Nothing = []
-stored (Journal at value) = in_journal at value ∷ []
-stored (Area at value) = in_area at value ∷ []
+abbrev pub stored : Option Store → List journal.Store
+stored None = []
+stored (Some (Journal at value)) = in_journal at value ∷ []
+stored (Some (Area at value)) = in_area at value ∷ []
 
 -- "handed a state or buffers other than the step before left, it stores at most one byte in them or gives 17"
 abbrev pub refuse : Step
-refuse = record { store = Nothing; next = stopped (refusal_answer 17) }
+refuse = record { store = None; next = stopped (refusal_answer 17) }
 
 -- the place in a record of the byte that is stored after `byte` others: "bytes 1 to 15 rising and its kind last"
 abbrev pub slot : ℕ → ℕ
@@ -157,7 +169,7 @@ word_step content s j a =
     let new : List ℕ = after (plan_of s) a content in
     cond (in_record s j && at_word s (length a) && can_write s (length a) (length content))
     (record {
-      store = Journal (16 * s.index + slot s.byte) (get_or (1 ∷ body_of s.word (part new s.word 8)) (slot s.byte) 0);
+      store = Some (Journal (16 * s.index + slot s.byte) (get_or (1 ∷ body_of s.word (part new s.word 8)) (slot s.byte) 0));
       next = after_word s a new;
     })
     refuse
@@ -172,7 +184,7 @@ after_commit s =
 unfoldable pub commit_step : Steps → List ℕ → Step
 commit_step s j =
     cond (in_record s j)
-    (record { store = Journal (16 * s.index + slot s.byte) (cond (ltb s.byte 15) 0 2); next = after_commit s })
+    (record { store = Some (Journal (16 * s.index + slot s.byte) (cond (ltb s.byte 15) 0 2)); next = after_commit s })
     refuse
 
 -- after a byte of a word in the area: the next byte, the next record's word, or the clearing
@@ -187,7 +199,7 @@ unfoldable pub apply_step : Steps → List ℕ → ℕ → Step
 apply_step s j len =
     let offset : ℕ = field j (16 * s.index + 4) 4 in
     cond (ltb s.index (records j) && ltb s.byte 8 && leb (offset + 8) len)
-    (record { store = Area (offset + s.byte) (get_or j (16 * s.index + 8 + s.byte) 0); next = after_apply s j })
+    (record { store = Some (Area (offset + s.byte) (get_or j (16 * s.index + 8 + s.byte) 0)); next = after_apply s j })
     refuse
 
 -- a kind cleared; after the last of them the end
@@ -195,14 +207,14 @@ unfoldable pub clear_step : Steps → List ℕ → Step
 clear_step s j =
     cond (ltb s.index (records j))
     (record {
-      store = Journal (16 * s.index) 0;
+      store = Some (Journal (16 * s.index) 0);
       next = cond (ltb (s.index + 1) (records j)) (stand s clearing (s.index + 1) 0 s.word) (stopped s.done);
     })
     refuse
 
 -- "After the end a step stores nothing"
 abbrev pub rest_step : Steps → Step
-rest_step s = record { store = Nothing; next = s }
+rest_step s = record { store = None; next = s }
 
 abbrev pub by_phase : ℕ → Step → Step → Step → Step → Step → Step → Step
 by_phase phase write commit apply clear rest other =
@@ -234,10 +246,10 @@ edit_start p new m =
 
 -- a recovery: with its first store, or at the end where it has none or is refused with 17
 abbrev pub beginning : Option (List journal.Store) → Steps
-beginning none = stopped (refusal_answer 17)
-beginning (some []) = stopped (value_answer 0)
-beginning (some (in_area i v ∷ ss)) = stand (stopped (value_answer 0)) applying 0 0 0
-beginning (some (in_journal i v ∷ ss)) = stand (stopped (value_answer 0)) clearing 0 0 0
+beginning None = stopped (refusal_answer 17)
+beginning (Some []) = stopped (value_answer 0)
+beginning (Some (in_area i v ∷ ss)) = stand (stopped (value_answer 0)) applying 0 0 0
+beginning (Some (in_journal i v ∷ ss)) = stand (stopped (value_answer 0)) clearing 0 0 0
 
 unfoldable pub recover_start : Memory → Steps
 recover_start m = beginning (recovery m)
@@ -273,8 +285,8 @@ to_end content s m = up_to_end (left (records m.journal) s) content s m
 
 -- 0 without a value, or 17
 abbrev pub recovery_answer : Option (List journal.Store) → DoneAnswer
-recovery_answer none = refusal_answer 17
-recovery_answer (some ss) = value_answer 0
+recovery_answer None = refusal_answer 17
+recovery_answer (Some ss) = value_answer 0
 
 -- what a recovery answers and leaves
 unfoldable pub recovered : Memory → Ended

@@ -1,8 +1,7 @@
 -- Document 02, request 9, of the steps: what cuts between them leave. "Starting from an empty journal, a cut after any byte leaves something
 -- from which recovery, itself cut any number of times and then run to its end, gives exactly the old area or the new one; the new one once the
 -- commit is stored." The steps of a recovery take no data; whatever they are handed is not looked at.
-use Rattle.std.specs.Prelude.{◌≡◌, ℕ, zero, suc, ◌<◌, cond, List, [], ◌∷◌, ltb}
-use Rattle.std.proofs.Math.Option.{some}
+use Rattle.std.specs.Prelude.{◌≡◌, ℕ, zero, suc, ◌<◌, cond, List, [], ◌∷◌, ltb, Some}
 use Rattle.journal.specs.Journal.{Store, Memory, memory, store, store_all, records, kind, edit_stores, commit_store, recovery}
 use Rattle.journal.specs.PowerCut.{Journals}
 use Rattle.steps.specs.declared.Steps.{Steps}
@@ -15,7 +14,7 @@ Goes content s m (x ∷ l) t = (stored (step_of content s m).store ≡ x ∷ [])
 
 -- the steps of a recovery of m, from s: the rules' stores, and then the end with its answer
 abbrev pub GoesAsRecovery : Memory → Steps → Type 0
-GoesAsRecovery m s = (other : List ℕ) (l : List Store) → recovery m ≡ some l → Goes other s m l (stopped (value_answer 0))
+GoesAsRecovery m s = (other : List ℕ) (l : List Store) → recovery m ≡ Some l → Goes other s m l (stopped (value_answer 0))
 
 -- the buffers after k steps
 unfoldable pub after_steps : ℕ → List ℕ → Steps → Memory → Memory

@@ -2,7 +2,9 @@
 ghost use Rattle.std.specs.Prelude.{◌≡◌, set};
 ghost use Rattle.journal.specs.Journal.{memory, store_all};
 ghost use Rattle.steps.specs.Steps.{rest_step, step_of, stored, stepped, report};
+ghost use Rattle.steps.specs.Codes.{or_refused};
 
+use crate::codes::{Phase, Refusal};
 use crate::{Step, Stepped, Steps, Store, phases, record};
 
 // At the end nothing more.
@@ -10,32 +12,23 @@ fn rest(s: Steps) -> Step
     ensures { result ≡ rest_step s }
 {
     Step {
-        store: Store::Nothing,
+        store: None,
         next: s,
     }
 }
 
-// What the next step does.
-fn decide(s: Steps, area: &[u8], data: &[u8], journal: &[u8]) -> Step
-    ensures { result ≡ step_of «data».now s (memory journal.now area.now) }
+// What the next step does. A match and no closure: which step it is stands in a C caller's state.
+#[tactic(auto, unfolding(crate::specs::Steps::step_of))]
+fn decide(s: Steps, area: &[u8], data: &[u8], journal: &[u8]) -> Result<Step, Refusal>
+    ensures { or_refused result ≡ step_of «data».now s (memory journal.now area.now) }
 {
-    let phase = s.phase;
-    if phase == Steps::WRITING {
-        return record::word_step(s, journal, area, data);
+    match Phase::try_from(s.phase)? {
+        Phase::Writing => record::word_step(s, journal, area, data),
+        Phase::Committing => phases::commit_step(s, journal),
+        Phase::Applying => phases::apply_step(s, journal, area.len()),
+        Phase::Clearing => phases::clear_step(s, journal),
+        Phase::End => Ok(rest(s)),
     }
-    if phase == Steps::COMMITTING {
-        return phases::commit_step(s, journal);
-    }
-    if phase == Steps::APPLYING {
-        return phases::apply_step(s, journal, area.len());
-    }
-    if phase == Steps::CLEARING {
-        return phases::clear_step(s, journal);
-    }
-    if phase == Steps::END {
-        return rest(s);
-    }
-    crate::refuse()
 }
 
 // The one store, if it lies in the buffer.
@@ -48,13 +41,13 @@ fn put(a: &mut [u8], at: usize, value: u8)
 }
 
 // What a step stores is stored.
-fn carry_out(what: Store, area: &mut [u8], journal: &mut [u8])
+fn carry_out(what: Option<Store>, area: &mut [u8], journal: &mut [u8])
     ensures { memory journal.new area.new ≡ store_all (stored what) (memory journal.old area.old) }
 {
     match what {
-        Store::Nothing => {}
-        Store::Journal { at, value } => put(journal, at, value),
-        Store::Area { at, value } => put(area, at, value),
+        None => {}
+        Some(Store::Journal { at, value }) => put(journal, at, value),
+        Some(Store::Area { at, value }) => put(area, at, value),
     }
 }
 
@@ -63,9 +56,7 @@ pub fn step(s: Steps, area: &mut [u8], data: &[u8], journal: &mut [u8]) -> Stepp
     ensures value { result ≡ report (step_of «data».now s (memory journal.old area.old)).next }
     ensures area_after { memory journal.new area.new ≡ stepped «data».now s (memory journal.old area.old) }
 {
-    let d = decide(s, area, data, journal);
-    let what = d.store;
-    let next = d.next;
-    carry_out(what, area, journal);
-    next.report()
+    let d = decide(s, area, data, journal).unwrap_or_else(Step::from);
+    carry_out(d.store, area, journal);
+    d.next.report()
 }

@@ -4,16 +4,21 @@
 
 pub mod advance;
 pub mod begin;
+mod codes;
 mod phases;
 mod record;
+mod records;
+mod verdict;
 pub mod whole;
 
-ghost use Rattle.std.specs.Prelude.{◌≡◌, ◌<◌, ◌^◌};
-ghost use Rattle.steps.specs.Steps as rule;
-ghost use Rattle.steps.specs.Steps.{stand, stopped, value_answer, refusal_answer, plan_of, carrying, can_write, report};
+ghost use Rattle.std.specs.Prelude.{◌≡◌, ◌<◌, ◌^◌, MatchResult, Err, true, false, eqb, length};
+ghost use Rattle.steps.specs.Steps.{at_end, stand, stopped, value_answer, plan_of, carrying, can_write, report};
+ghost use Rattle.steps.specs.Codes.{phase_number, or_refused};
 
+use codes::{Phase, Refusal};
 use plan::Plan;
 use rules::DoneAnswer;
+use words::Edit;
 
 // Where an edit or a recovery stands: what is stored next, the answer at the end, and the plan of the edit in numbers. A caller hands it back as
 // he got it; a step takes any.
@@ -23,6 +28,7 @@ pub struct Steps {
     // The record, and the offset of its word.
     pub index: u64,
     pub word: u64,
+    // A C caller's struct: the phase is a number here.
     pub phase: u32,
     // How many bytes of the record or of the word are stored.
     pub byte: u32,
@@ -43,47 +49,49 @@ pub struct Steps {
 #[derive(Clone, Copy)]
 pub struct Stepped {
     pub state: Steps,
+    // A C caller's struct: a flag beside the answer is a number there.
     pub ended: u32,
     pub done: DoneAnswer,
 }
 
-// What a step stores.
+// The one byte that a step stores.
 #[derive(Clone, Copy)]
 pub enum Store {
-    Nothing,
     Journal { at: usize, value: u8 },
     Area { at: usize, value: u8 },
 }
 
-// And the state that it leaves.
+// What a step stores, if anything, and the state that it leaves.
 #[derive(Clone, Copy)]
 pub struct Step {
-    pub store: Store,
+    pub store: Option<Store>,
     pub next: Steps,
 }
 
+// A step that is refused stores nothing and is the end.
+impl From<Refusal> for Step {
+    ghost from_gives = { λ r s. s ≡ or_refused (Err r) };
+
+    fn from(refusal: Refusal) -> Step {
+        Step {
+            store: None,
+            next: Steps::stopped(refusal.into()),
+        }
+    }
+}
+
 impl Steps {
-    // A word record is written, the commit record is, words are applied, kinds are cleared; the end.
-    pub(crate) const WRITING: u32 = 0;
-
-    pub(crate) const COMMITTING: u32 = 1;
-
-    pub(crate) const APPLYING: u32 = 2;
-
-    pub(crate) const CLEARING: u32 = 3;
-
-    pub(crate) const END: u32 = 4;
-
     // The same edit or recovery, standing elsewhere.
-    pub(crate) fn stand(self, phase: u32, index: u64, byte: u32, word: u64) -> Steps
-        ensures { result ≡ stand self phase index byte word }
+    pub(crate) fn stand(self, phase: Phase, index: u64, byte: u32, word: u64) -> Steps
+        ensures { result ≡ stand self (phase_number phase) index byte word }
     {
-        let mut s = self;
-        s.phase = phase;
-        s.index = index;
-        s.byte = byte;
-        s.word = word;
-        s
+        Steps {
+            phase: phase.into(),
+            index,
+            byte,
+            word,
+            ..self
+        }
     }
 
     // The end, with its answer.
@@ -93,7 +101,7 @@ impl Steps {
         Steps {
             index: 0,
             word: 0,
-            phase: Steps::END,
+            phase: Phase::End.into(),
             byte: 0,
             done,
             checksum: 0,
@@ -108,7 +116,7 @@ impl Steps {
         }
     }
 
-    // A state that carries a plan.
+    // A state that carries a plan. No From: a plan has to fit.
     pub(crate) fn carrying(p: Plan) -> Steps
         requires { (p.at < 2 ^ 32) × (p.padding < 2 ^ 32) × (p.zeros < 2 ^ 32) × (p.behind < 2 ^ 32) }
         ensures value { result ≡ carrying p }
@@ -117,11 +125,11 @@ impl Steps {
         Steps {
             index: 0,
             word: 0,
-            phase: Steps::WRITING,
+            phase: Phase::Writing.into(),
             byte: 0,
             done: valued(p.value),
-            checksum: p.checksum as u32,
-            alignment: p.alignment as u32,
+            checksum: p.checksum.into(),
+            alignment: p.alignment.into(),
             used_size: p.used_size,
             at: p.at as u32,
             padding: p.padding as u32,
@@ -133,32 +141,35 @@ impl Steps {
     }
 
     // The plan that a state carries.
-    pub(crate) fn plan(self) -> Plan
+    fn plan(self) -> Plan
         requires { (self.checksum < 256) × (self.alignment < 256) }
-        ensures value { result ≡ plan_of self }
-        ensures at_bound { (result.at < 2 ^ 32) × (result.padding < 2 ^ 32) × (result.zeros < 2 ^ 32) × (result.behind < 2 ^ 32) }
+        ensures { result ≡ plan_of self }
     {
-        let done = self.done;
         Plan {
-            value: done.value,
+            value: self.done.value,
             checksum: self.checksum as u8,
             alignment: self.alignment as u8,
             used_size: self.used_size,
-            at: wide(self.at),
-            padding: wide(self.padding),
+            at: self.at as usize,
+            padding: self.padding as usize,
             tag_id: self.tag_id,
             data_size: self.data_size,
-            zeros: wide(self.zeros),
-            behind: wide(self.behind),
+            zeros: self.zeros as usize,
+            behind: self.behind as usize,
         }
     }
 
     // Whether that plan can be written into len bytes, with n bytes of data.
-    pub(crate) fn can_write(self, len: usize, n: usize) -> bool
+    #[tactic(auto, unfolding(crate::specs::Steps::can_write))]
+    fn can_write(self, len: usize, n: usize) -> bool
         requires { n < 2 ^ 63 }
         ensures { result ≡ can_write self len n }
     {
-        let numbers = wide(self.at) + wide(self.padding) + 8 + wide(self.zeros) + wide(self.behind);
+        let numbers = self.at as usize
+            + self.padding as usize
+            + 8
+            + self.zeros as usize
+            + self.behind as usize;
         (self.checksum < 256)
             & (self.alignment < 256)
             & (24 <= self.at)
@@ -167,16 +178,38 @@ impl Steps {
             & (n + numbers <= len)
     }
 
+    // The edit that a state carries, if it can be made in this area with these data.
+    pub(crate) fn edit<'a>(self, area: &'a [u8], data: &'a [u8]) -> Result<Edit<'a>, Refusal>
+        ensures { MatchResult result (λ e. (can_write self (length area.now) (length «data».now) ≡ true)
+            × (e.plan ≡ plan_of self) × (e.area.now ≡ area.now) × (e.«data».now ≡ «data».now))
+            (λ r. (can_write self (length area.now) (length «data».now) ≡ false) × (r ≡ Refusal.Foreign)) }
+    {
+        if !self.can_write(area.len(), data.len()) {
+            return Err(Refusal::Foreign);
+        }
+        Ok(Edit {
+            plan: self.plan(),
+            area,
+            data,
+        })
+    }
+
+    // Whether it stands at the end.
+    pub(crate) fn has_ended(self) -> bool
+        ensures { result ≡ eqb self.phase at_end }
+    {
+        self.phase == u32::from(Phase::End)
+    }
+
     // What is answered: at the end the answer, before it none.
     pub fn report(self) -> Stepped
         ensures { result ≡ report self }
     {
-        let done = self.done;
-        if self.phase == Steps::END {
+        if self.has_ended() {
             return Stepped {
                 state: self,
                 ended: 1,
-                done,
+                done: self.done,
             };
         }
         Stepped {
@@ -187,13 +220,6 @@ impl Steps {
     }
 }
 
-// A number of the plan as a wider one: the cast asks for no proof here.
-fn wide(x: u32) -> usize
-    ensures { (result ≡ x) × (result < 2 ^ 32) }
-{
-    x as usize
-}
-
 // An answer without a place.
 pub(crate) fn valued(value: u32) -> DoneAnswer
     ensures { result ≡ value_answer value }
@@ -202,26 +228,5 @@ pub(crate) fn valued(value: u32) -> DoneAnswer
         number: 0,
         value,
         at: 0,
-    }
-}
-
-// Refusals 16 and 17 have neither value nor place.
-pub(crate) fn refused(number: u32) -> DoneAnswer
-    ensures { result ≡ refusal_answer number }
-{
-    DoneAnswer {
-        number,
-        value: 0,
-        at: 0,
-    }
-}
-
-// A step on a state that no step left: 17, and nothing is stored.
-pub(crate) fn refuse() -> Step
-    ensures { result ≡ rule.refuse }
-{
-    Step {
-        store: Store::Nothing,
-        next: Steps::stopped(refused(17)),
     }
 }

@@ -12,13 +12,10 @@ pub fn finish(from: Steps, area: &mut [u8], data: &[u8], journal: &mut [u8]) -> 
         ≡ to_end «data».now from (memory journal.old area.old) }
 {
     let mut s = from;
-    while s.phase != Steps::END {
-        let r = advance::step(s, area, data, journal);
-        let next = r.state;
-        s = next;
+    while !s.has_ended() {
+        s = advance::step(s, area, data, journal).state;
     }
-    let done = s.done;
-    done
+    s.done
 }
 
 // Recovers what a cut has left: a committed edit is made whole, and the journal is cleared.
@@ -28,6 +25,5 @@ pub fn recover(area: &mut [u8], journal: &mut [u8]) -> DoneAnswer
         ≡ to_end [] (recover_start (memory journal.old area.old)) (memory journal.old area.old) }
 {
     let s = begin::recover_start(area, journal);
-    let none: [u8; 0] = [];
-    finish(s, area, &none, journal)
+    finish(s, area, b"", journal)
 }

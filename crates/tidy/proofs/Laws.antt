@@ -1,30 +1,36 @@
 -- The walk that joins voids: what it has still to write, at each place where it stands. And the checksum worked out afresh.
+use Rattle.std.specs.Prelude.{Ok}
 use mathlib.Core.Path.{◌≡◌, refl, sym, ap, ◌∙◌}
 use Prim.Native.Nat.{ℕ, ◌+◌, ◌-◌, ◌%◌, ◌≤◌, ◌<◌}
 use native.Mathlib.Omega.{arith}
 use mathlib.Core.Bool.{Bool, true, false, cond}
 use mathlib.Core.List.{List, [], ◌∷◌}
-use lib.ListN.{length, take, get_or}
+use lib.ListN.{length, take, get_or, replicate}
 use lib.Seq.{length-take-le, get_or-take}
 use lib.Dec.{eqb}
 use lib.Bits.{bit_xor}
 use borrow.Author.Tests.{eq-eqb, ne_eqb, eqb-true, eqb-false, le-ltb}
-use Rattle.wire.specs.Bytes.{xor, splice}
+use Rattle.wire.specs.Bytes.{le_bytes, xor, splice}
 use Rattle.wire.proofs.Splice.{splice-nil, length-splice, get_or-splice-behind}
 use Rattle.rules.specs.declared.Entry.{Entry}
-use Rattle.rules.specs.declared.Header.{Header}
 use Rattle.rules.specs.Header.{header_of, header_size}
 use Rattle.rules.specs.Edition.{current}
 use Rattle.rules.specs.Entries.{entry_at, is_void, span, entries_of, live_ones}
-use Rattle.rules.specs.Checksum.{fresh_checksum}
+use Rattle.rules.specs.Checksum.{fresh_checksum, seal}
+use Rattle.rules.specs.Outcome.{done}
+use Rattle.rules.specs.Edit.{run as run_edit, to_tidy}
 use Rattle.rules.specs.Add.{entry_span}
-use Rattle.rules.specs.Tidy.{void_before, tidied, write_voids, end_of, tidy_used, give_back, tidy_bytes}
+use Rattle.rules.specs.Tidy.{void_before, tidied, write_voids, end_of, tidy_used, tidy_bytes, tidy}
+use Rattle.walk.specs.declared.check.Surveyed.{Surveyed}
+use Rattle.walk.specs.declared.wanted.Wanted.{Wanted}
+use Rattle.walk.specs.Survey.{survey_of}
+use Rattle.walk.proofs.Survey.{accepted, admitted}
 use Rattle.plan.specs.Plan.{whole_void}
 use Rattle.plan.proofs.Laws.{void_span_le, length-whole_void}
 use Rattle.laws.proofs.Check.{Admitted, used-most}
 use Rattle.laws.proofs.Row.{Regular, Row, Same, row_le, place_of}
 use Rattle.laws.proofs.Live.{read_same}
-use Rattle.laws.proofs.Ready.{used_of, ready_sound}
+use Rattle.laws.proofs.Ready.{used_of, Ready, ready_sound}
 use Rattle.laws.proofs.Written.{entry_of}
 use Rattle.laws.proofs.Xor.{xor-without}
 use Rattle.laws.proofs.Seal.{fresh}
@@ -57,15 +63,15 @@ abbrev pub Left : ℕ → List ℕ → List ℕ → ℕ → ℕ → Type 0
 Left used a₀ a end at = (es : List Entry) × Stands used a₀ a end at es
 
 -- before the first entry
-pub left-first : (a : List ℕ) (base : ℕ) (h : Header) → Admitted a base h → Left h.used_size a a 24 24
-left-first a base h k = rw k.header (
+pub left-first : (used : ℕ) (a : List ℕ) → Row a 24 used (entries_of a) → used ≤ length a → Left used a a 24 24
+left-first used a r l = (
   entries_of a,
   record {
-    row = (ready_sound a base k.sound k.version).row;
+    row = r;
     order = omega arith;
     eights = (refl, refl);
     size = refl;
-    top = used-most current a base k.sound;
+    top = l;
     ends = refl;
     bytes = refl;
   },
@@ -137,12 +143,12 @@ module _ (used : ℕ) (a₀ a : List ℕ) (end at : ℕ) (before : at < used) wh
   spanned e r = omega (arith, r.header)
 
   -- which lie before the end of the list
-  pub left-fits : Left used a₀ a end at → at + entry_span (entry_at a at).data_size ≤ used
+  left-fits : Left used a₀ a end at → at + entry_span (entry_at a at).data_size ≤ used
   left-fits ([], s) = absurd (omega (arith, s.row))
   left-fits (e ∷ es, s) = rw (← s.row.0, ← spanned e s.row.1) (row_le a (at + span e) used es s.row.2)
 
   -- a void there is left for the run's end
-  pub left-void : Left used a₀ a end at → (entry_at a at).tag_id ≡ 0 → Left used a₀ a end (at + entry_span (entry_at a at).data_size)
+  left-void : Left used a₀ a end at → (entry_at a at).tag_id ≡ 0 → Left used a₀ a end (at + entry_span (entry_at a at).data_size)
   unfolding live_ones
   left-void ([], s) v = absurd (omega (arith, s.row))
   left-void (e ∷ es, s) v =
@@ -164,7 +170,7 @@ module _ (used : ℕ) (a₀ a : List ℕ) (end at : ℕ) (before : at < used) wh
       )
 
   -- before a live entry the run is written
-  pub left-live : Left used a₀ a end at → ((entry_at a at).tag_id ≡ 0 → ⊥) → let next = at + entry_span (entry_at a at).data_size in
+  left-live : Left used a₀ a end at → ((entry_at a at).tag_id ≡ 0 → ⊥) → let next = at + entry_span (entry_at a at).data_size in
       Left used a₀ (splice a end (whole_void (at - end))) next next
   unfolding live_ones end_of
   left-live ([], s) v = absurd (omega (arith, s.row))
@@ -193,39 +199,72 @@ module _ (used : ℕ) (a₀ a : List ℕ) (end at : ℕ) (before : at < used) wh
         },
       )
 
+  -- the same by the entry f that is read there and the n bytes that it takes
+  module _ (f : Entry) (n : ℕ) (read : f ≡ entry_at a at) (taken : n ≡ entry_span f.data_size) (l : Left used a₀ a end at) where
+    pub step-fits : at + n ≤ used
+    step-fits = rw (taken, read) (left-fits l)
+
+    pub step-void : f.tag_id ≡ 0 → Left used a₀ a end (at + n)
+    step-void v = rw (taken, read) (left-void l (rw read at v))
+
+    pub step-live : (f.tag_id ≡ 0 → ⊥) → (b : List ℕ) → b ≡ splice a end (whole_void (at - end)) → Left used a₀ b (at + n) (at + n)
+    step-live v b w = rw (taken, read, w) (left-live l (rw read at v))
+
 -- ---- the tidy list
 
-module _ (a : List ℕ) (base : ℕ) (h : Header) (u : ℕ) (k : Admitted a base h) (e : u ≡ tidy_used a) where
+-- of a list whose survey for an edit is accepted
+module _ (a : List ℕ) (base : ℕ) (w : Wanted) (s : Surveyed) (k : survey_of true a base w ≡ Ok s) where
+  admits : Admitted a base s.header
+  admits = admitted a base w s k
+
+  ready : Ready a base (entries_of a)
+  ready = ready_sound a base admits.sound admits.version
+
+  -- its entries stand in a row up to its used size
+  pub rowed : Row a 24 s.header.used_size (entries_of a) × (s.header.used_size ≤ length a)
+  rowed = rw admits.header (ready.row, used-most current a base admits.sound)
+
+  -- behind a header of 24 bytes
+  pub long : 24 ≤ length a
+  long = admits.sound.header.long
+
+  -- it is tidied as the rule has it
+  pub ruled : run_edit to_tidy a base ≡ done (tidy_used a) (seal (tidy_bytes a))
+  unfolding tidy
+  ruled = simp (accepted true a base w s k).checked
+
   -- the rule's list
   clear : Cleared a (tidy_bytes a) base (tidy_used a) (entries_of a)
-  clear = cleared a base (ready_sound a base k.sound k.version)
+  clear = cleared a base ready
 
-  -- the new used size does not exceed the old one, which lies within the area
-  pub bounds : (u ≤ h.used_size) × (h.used_size ≤ length a)
-  bounds = rw (e, k.header) (clear.most, used-most current a base k.sound)
+  module _ (u : ℕ) (e : u ≡ tidy_used a) where
+    -- the new used size does not exceed the old one, which lies within the area
+    pub bounds : (u ≤ s.header.used_size) × (s.header.used_size ≤ length a)
+    bounds = rw (e, admits.header) (clear.most, used-most current a base admits.sound)
 
-  -- the voids joined, zeros in what is given back, and the new used size make the rule's list
-  pub written : (d : List ℕ) → d ≡ write_voids (tidied (entries_of a)) a → give_back h.used_size u d ≡ tidy_bytes a
-  unfolding tidy_bytes
-  written d w = rw (e, k.header, w)
+    -- the voids joined as d, zeros in what is given back, which makes it z, and the new used size make the rule's list
+    pub written : (d z c : List ℕ) → d ≡ write_voids (tidied (entries_of a)) a → z ≡ splice d u (replicate (s.header.used_size - u) 0)
+        → c ≡ splice z 8 (le_bytes 4 u) → c ≡ tidy_bytes a
+    unfolding tidy_bytes
+    written d z c ed ez ec = rw (ec, ez, ed, e, admits.header)
 
-  -- what its checksum asks for
-  pub sealable : (c : List ℕ) → c ≡ tidy_bytes a
-      → (h.flags ≡ (header_of c).flags) × (u ≡ used_of c) × (header_size ≤ u) × (u ≤ length c)
-  sealable c w = rw (w, k.header) (sym clear.changed.flags, e ∙ sym clear.used, rw e clear.low, rw e clear.inside)
+    -- what its checksum asks for
+    pub sealable : (c : List ℕ) → c ≡ tidy_bytes a
+        → (s.header.flags ≡ (header_of c).flags) × (u ≡ used_of c) × (header_size ≤ u) × (u ≤ length c)
+    sealable c w = rw (w, admits.header) (sym clear.changed.flags, e ∙ sym clear.used, rw e clear.low, rw e clear.inside)
 
 -- ---- the checksum
 
 module _ (a : List ℕ) (flags : ℕ) (f : flags ≡ (header_of a).flags) where
   -- with has_checksum it is the exclusive or of all used bytes and byte 4
-  pub fresh_summed : (used : ℕ) → used ≡ used_of a → 24 ≤ used → used ≤ length a → flags % 2 ≡ 1
+  pub fresh_summed : (used : ℕ) → used ≡ used_of a → 24 ≤ used → used ≤ length a → eqb (flags % 2) 1 ≡ true
       → bit_xor (xor (take used a)) (get_or a 4 0) ≡ fresh_checksum a
   unfolding header_of
   fresh_summed used u low top h =
       let l : length (take used a) ≡ used = length-take-le used a top in
-      sym (fresh a ∙ rw (← f, ← u, eq-eqb _ _ h, xor-without (take used a) 4 (omega arith), get_or-take used a 4 0 (omega arith)))
+      sym (fresh a ∙ rw (← f, ← u, h, xor-without (take used a) 4 (omega arith), get_or-take used a 4 0 (omega arith)))
 
   -- without it 0
-  pub fresh_unsummed : (flags % 2 ≡ 1 → ⊥) → 0 ≡ fresh_checksum a
+  pub fresh_unsummed : eqb (flags % 2) 1 ≡ false → 0 ≡ fresh_checksum a
   unfolding header_of
-  fresh_unsummed h = sym (fresh a ∙ rw (← f, ne_eqb _ _ h))
+  fresh_unsummed h = sym (fresh a ∙ rw (← f, h))

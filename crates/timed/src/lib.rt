@@ -5,15 +5,19 @@
 ghost use Rattle.std.specs.Prelude.{◌≡◌, ◌-◌, length, take, drop};
 ghost use Rattle.wire.specs.Bytes.{xor};
 
+// The bytes from at on; behind the end there are none.
+fn bytes_from(s: &[u8], at: usize) -> &[u8]
+    ensures { result.now ≡ take (length s.now - at) (drop at s.now) }
+{
+    &s[at.min(s.len())..]
+}
+
 // By words, from at on.
 #[unsafe(no_mangle)]
 pub extern "C" fn xor_by_words(s: &[u8], at: usize) -> u8
     ensures { result ≡ xor (take (length s.now - at) (drop at s.now)) }
 {
-    if at > s.len() {
-        return 0;
-    }
-    wire::xor_part(s, at, s.len() - at)
+    wire::xor(bytes_from(s, at))
 }
 
 // By single bytes, from at on.
@@ -21,8 +25,5 @@ pub extern "C" fn xor_by_words(s: &[u8], at: usize) -> u8
 pub extern "C" fn xor_by_bytes(s: &[u8], at: usize) -> u8
     ensures { result ≡ xor (take (length s.now - at) (drop at s.now)) }
 {
-    if at > s.len() {
-        return 0;
-    }
-    wire::xor_bytes(s, at, s.len() - at)
+    wire::xor_bytes(bytes_from(s, at))
 }

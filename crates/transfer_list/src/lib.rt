@@ -41,14 +41,14 @@ use walk::{check, find};
 pub fn tl_check(area: &[u8], base: u64) -> CheckAnswer
     ensures { result ≡ check_answer (check_rule area.now base) }
 {
-    check::check(area, base).numbers()
+    check::check(Format::Current, area, base).into()
 }
 
 // Finds the data of occurrence n of a tag.
 pub fn tl_find(area: &[u8], base: u64, tag: u32, n: u64) -> FindAnswer
     ensures { result ≡ find_answer (find_rule area.now base tag n) }
 {
-    find::find(area, base, tag, n).numbers()
+    find::find(Format::Current, area, base, tag, n).into()
 }
 
 // The data itself, as a part of the caller's area; the empty part where find refuses. C has no such result: there the header's tl_data
@@ -58,7 +58,7 @@ pub fn tl_find_data(area: &[u8], base: u64, tag: u32, n: u64) -> &[u8]
     ensures same_memory { result.ref_ptr.0 ≡ area.entry.ref_ptr.0 }
     ensures at_offset { result.ref_ptr.1 ≡ area.entry.ref_ptr.1 + part_offset (find_rule area.now base tag n) }
 {
-    find::find_data(area, base, tag, n)
+    find::find_data(Format::Current, area, base, tag, n)
 }
 
 // Writes a new list without entries. Answers the total.
@@ -66,14 +66,14 @@ pub fn tl_create(area: &mut [u8], base: u64, has_checksum: bool) -> DoneAnswer
     ensures value { result ≡ done_answer (answer (create_rule area.old base has_checksum)) }
     ensures area_after { area.new ≡ bytes_after area.old (create_rule area.old base has_checksum) }
 {
-    create::create(area, base, has_checksum).numbers()
+    create::create(area, base, has_checksum).into()
 }
 
 // Adds an entry. Answers the new data's offset.
 pub fn tl_add(area: &mut [u8], base: u64, tag: u32, data: &[u8], use_voids: bool) -> DoneAnswer
     ensures { Promised (to_add tag «data».now use_voids) area.old base result area.new }
 {
-    edits::add(area, base, tag, data, use_voids).numbers()
+    edits::add(area, base, tag, data, use_voids).into()
 }
 
 // Adds an entry whose data address is a multiple of 2^exponent. Answers the new data's offset.
@@ -86,35 +86,35 @@ pub fn tl_add_aligned(
 ) -> DoneAnswer
     ensures { Promised (to_add_aligned tag «data».now exponent) area.old base result area.new }
 {
-    edits::add_aligned(area, base, tag, data, exponent).numbers()
+    edits::add_aligned(area, base, tag, data, exponent).into()
 }
 
 // Turns occurrence n of a tag into a void. Answers the voided entry's offset.
 pub fn tl_void(area: &mut [u8], base: u64, tag: u32, n: u64) -> DoneAnswer
     ensures { Promised (to_void tag n) area.old base result area.new }
 {
-    edits::void(area, base, tag, n).numbers()
+    edits::void(area, base, tag, n).into()
 }
 
 // Relocates the list into the target. Answers the shift.
 pub fn tl_relocate(area: &[u8], base: u64, target: &mut [u8], target_base: u64) -> DoneAnswer
     ensures { Promised (to_relocate target.old target_base) area.now base result target.new }
 {
-    relocate::relocate(area, base, target, target_base).numbers()
+    relocate::relocate(area, base, target, target_base).into()
 }
 
-// Checks the list of edition 0.9 in area, which stands at base.
+// Checks the list of edition 0.9 in area, which stands at base. Edition 0.9's calls have names of their own, as C has them.
 pub fn tl09_check(area: &[u8], base: u64) -> CheckAnswer
     ensures { result ≡ check_answer (check09 area.now base) }
 {
-    check::check_of(Format::Edition09, area, base).numbers()
+    check::check(Format::Edition09, area, base).into()
 }
 
 // Finds the data of occurrence n of a tag in a list of edition 0.9.
 pub fn tl09_find(area: &[u8], base: u64, tag: u32, n: u64) -> FindAnswer
     ensures { result ≡ find_answer (find09 area.now base tag n) }
 {
-    find::find_of(Format::Edition09, area, base, tag, n).numbers()
+    find::find(Format::Edition09, area, base, tag, n).into()
 }
 
 // The data itself, as a part of the caller's area; the empty part where tl09_find refuses.
@@ -123,28 +123,28 @@ pub fn tl09_find_data(area: &[u8], base: u64, tag: u32, n: u64) -> &[u8]
     ensures same_memory { result.ref_ptr.0 ≡ area.entry.ref_ptr.0 }
     ensures at_offset { result.ref_ptr.1 ≡ area.entry.ref_ptr.1 + part_offset (find09 area.now base tag n) }
 {
-    find::find_data_of(Format::Edition09, area, base, tag, n)
+    find::find_data(Format::Edition09, area, base, tag, n)
 }
 
 // Converts the list of edition 0.9 into the target, as a current list with checksums on. Answers the shift.
 pub fn tl09_convert(area: &[u8], base: u64, target: &mut [u8], target_base: u64) -> DoneAnswer
     ensures { ConvertPromised area.now base target.old target_base result target.new }
 {
-    convert::convert(area, base, target, target_base).numbers()
+    convert::convert(area, base, target, target_base).into()
 }
 
 // Tidies the list's voids. Answers the new used size.
 pub fn tl_tidy(area: &mut [u8], base: u64) -> DoneAnswer
     ensures { Promised to_tidy area.old base result area.new }
 {
-    tidy::tidy(area, base).numbers()
+    tidy::tidy(area, base).into()
 }
 
 // The reading of the list's one test certificate, if it is that of this serial and test, and whether it passes its gate.
 pub fn tl_certificate(area: &[u8], base: u64, serial: u64, test: u64) -> CertifiedAnswer
     ensures { result ≡ certified_answer (certify_rule area.now base serial test) }
 {
-    certify::certify(area, base, serial, test).numbers()
+    certify::certify(area, base, serial, test).into()
 }
 
 // Checks a flattened device tree, which it takes alone. Answers 0, or 21.

@@ -1,4 +1,7 @@
 -- What a step of the cursor tells of the walk, and what an entry adds to the counts and to the memory.
+use Rattle.std.specs.Prelude.{Err, None, Ok, Option, Result, Some}
+use Rattle.rules.specs.declared.Refusal.{Refusal}
+use Rattle.walk.specs.declared.cursor.Counts.{Counts}
 use Rattle.std.proofs.Common.{
   ◌≡◌,
   ℕ,
@@ -38,39 +41,35 @@ use Rattle.rules.specs.Entries.{
   void_count,
 }
 use Rattle.laws.proofs.Walk.{Bounded, bounded, walk_end, walk-next, walk-broken}
-use Rattle.walk.specs.declared.cursor.Step.{Step}
-use Rattle.walk.specs.declared.cursor.Step.TheVariants.{Next, End, Broken}
-use Rattle.walk.specs.declared.cursor.Walked.{Walked}
-use Rattle.walk.specs.declared.cursor.Walked.TheVariants as walked
+use Rattle.rules.specs.declared.Refusal.TheVariants as refusal
+use Rattle.walk.specs.declared.cursor.Cursor.{Cursor}
 use Rattle.walk.specs.declared.wanted.Wanted.{Wanted}
-use Rattle.walk.specs.declared.wanted.Sought.{Sought}
-use Rattle.walk.specs.declared.wanted.Sought.TheVariants.{At, Nothing}
 use Rattle.walk.specs.declared.wanted.Memory.{Memory}
-use Rattle.walk.specs.Cursor.{step_at}
-use Rattle.walk.specs.Wanted.{wants, wanted_in, sought, told, forgetful, remembered}
+use Rattle.walk.specs.Cursor.{stepped, step_at}
+use Rattle.walk.specs.Wanted.{wants, wanted_in, told, forgetful, remembered}
 
 -- ---- the walk
 
 module _ (version : ℕ) (a : List ℕ) (used at : ℕ) where
   -- what a step tells: the walk ends, or is broken here, or goes on behind an entry of eight bytes or more
-  abbrev pub Tells : Step → Type 0
-  Tells End = walk_from version a used at ≡ entries []
-  Tells Broken = walk_from version a used at ≡ broken at
-  Tells (Next e d) =
+  abbrev pub Tells : Result (Option (Entry × Cursor)) Refusal → Type 0
+  Tells (Ok None) = walk_from version a used at ≡ entries []
+  Tells (Err r) = (walk_from version a used at ≡ broken at) × (r ≡ refusal.Entry at)
+  Tells (Ok (Some (e, d))) =
       (at + 8 ≤ d.at) × (d.at ≤ used) × (walk_from version a used at ≡ follow e (walk_from version a used d.at))
 
   -- each step tells the walk
-  pub step_tells : (x : Step) → at ≤ used → step_at version a used at ≡ x → Tells x
+  pub step_tells : (x : Result (Option (Entry × Cursor)) Refusal) → at ≤ used → step_at version a used at ≡ x → Tells x
   unfolding step_at entry_at
   step_tells x h k = subst Tells k (go (eqb at used) (bad_entry version (used - at) (entry_at a at)) refl refl)
     where
       go : (s b : Bool) → eqb at used ≡ s → bad_entry version (used - at) (entry_at a at) ≡ b
-          → Tells (cond s End (cond b Broken (Next (entry_at a at) (record { at = at + span (entry_at a at) }))))
+          → Tells (cond s (Ok None) (stepped at (entry_at a at) (cond b None (Some (record { at = at + span (entry_at a at) })))))
       go true b p q = let e : at ≡ used = eqb-true at used p in rw e (walk_end version a used)
       go false true p q =
           let n = eqb-false at used p in
           let l : at < used = omega (arith, n) in
-          walk-broken version a used at l q
+          (walk-broken version a used at l q, refl)
       go false false p q =
           let n = eqb-false at used p in
           let l : at < used = omega (arith, n) in
@@ -80,17 +79,17 @@ module _ (version : ℕ) (a : List ℕ) (used at : ℕ) where
 -- ---- counting and remembering
 
 -- what was found before, or what the rest has
-abbrev or_else : Sought → Sought → Sought
-or_else (At e) x = At e
-or_else Nothing x = x
+abbrev or_else : Option Entry → Option Entry → Option Entry
+or_else (Some e) x = Some e
+or_else None x = x
 
-abbrev recalled : Wanted → Memory → List Entry → Sought
-recalled w m es = or_else m.found (sought (wanted_in w.tag w.least m.left es))
+abbrev recalled : Wanted → Memory → List Entry → Option Entry
+recalled w m es = or_else m.found (wanted_in w.tag w.least m.left es)
 
 -- what a walk tells behind entries that were counted and remembered
-unfoldable pub told_from : Wanted → ℕ → ℕ → Memory → Walk → Walked
-told_from w live voids m (entries es) = walked.Counts (live + live_count es) (voids + void_count es) (recalled w m es)
-told_from w live voids m (broken at) = walked.Broken at
+unfoldable pub told_from : Wanted → ℕ → ℕ → Memory → Walk → Result Counts Refusal
+told_from w live voids m (entries es) = Ok (record { live = live + live_count es; voids = voids + void_count es; found = recalled w m es })
+told_from w live voids m (broken at) = Err (refusal.Entry at)
 
 -- before the first entry that is all that it tells
 pub told-first : (w : Wanted) (x : Walk) → told_from w 0 0 (forgetful w) x ≡ told w x
@@ -100,13 +99,13 @@ told-first w (broken at) = refl
 
 module _ (w : Wanted) (live voids : ℕ) (m : Memory) where
   -- behind the last entry nothing is added
-  pub told-last : told_from w live voids m (entries []) ≡ walked.Counts live voids m.found
+  pub told-last : told_from w live voids m (entries []) ≡ Ok (record { live = live; voids = voids; found = m.found })
   unfolding told_from live_count void_count wanted_in
   told-last = go m.found refl
     where
-      go : (x : Sought) → m.found ≡ x → told_from w live voids m (entries []) ≡ walked.Counts live voids x
-      go (At e) p = simp (p, add-zero)
-      go Nothing p = simp (p, add-zero)
+      go : (x : Option Entry) → m.found ≡ x → told_from w live voids m (entries []) ≡ Ok (record { live = live; voids = voids; found = x })
+      go (Some e) p = simp (p, add-zero)
+      go None p = simp (p, add-zero)
 
   module _ (e : Entry) where
     -- an entry is remembered as the wanted one is searched
@@ -114,11 +113,11 @@ module _ (w : Wanted) (live voids : ℕ) (m : Memory) where
     unfolding wanted_in
     recalls es = go (wants w.tag w.least e) (eqb m.left 0) m.found refl refl refl
       where
-        go : (k z : Bool) (x : Sought) → wants w.tag w.least e ≡ k → eqb m.left 0 ≡ z → m.found ≡ x
+        go : (k z : Bool) (x : Option Entry) → wants w.tag w.least e ≡ k → eqb m.left 0 ≡ z → m.found ≡ x
             → recalled w m (e ∷ es) ≡ recalled w (remembered w e m) es
-        go true true Nothing p q r = simp (p, q, r)
-        go true false Nothing p q r = simp (p, q, r)
-        go true z (At y) p q r = simp (p, r)
+        go true true None p q r = simp (p, q, r)
+        go true false None p q r = simp (p, q, r)
+        go true z (Some y) p q r = simp (p, r)
         go false z x p q r = simp p
 
     -- a void counts among the voids

@@ -4,131 +4,108 @@ ghost use Rattle.std.specs.Prelude.{◌≡◌, ◌≤◌, false, length};
 ghost use Rattle.rules.specs.Header.{header_of};
 ghost use Rattle.rules.specs.Entries.{first_entry, entries_of};
 ghost use Rattle.rules.specs.Checksum.{checksum_holds};
-ghost use Rattle.rules.specs.Check.{checks_of, check as check_rule};
+ghost use Rattle.rules.specs.Check.{checks_of};
 ghost use Rattle.rules.specs.Edition09.{edition09, sum_holds};
 ghost use Rattle.walk.specs.Format.{edition_of};
-ghost use Rattle.walk.specs.Wanted.{wanted_of, sought};
-ghost use Rattle.walk.specs.Survey.{survey_in, survey_of, refusal_of_surveyed};
+ghost use Rattle.walk.specs.Wanted.{wanted_of};
+ghost use Rattle.walk.specs.Survey.{survey_in};
 
-use crate::cursor::Walked;
 use crate::format::Format;
-use crate::header::Headed;
-use crate::wanted::{Sought, Wanted};
+use crate::wanted::Wanted;
 use crate::{cursor, header};
-use rules::{Checked, Facts, Header, Refusal};
+use rules::list::List;
+use rules::{Entry, Facts, Header, Refusal};
 
-// The answer of a survey: what the check answers, the header, and the wanted entry.
+// What the survey of an accepted list answers: what the check answers, the header, and the wanted entry, if there is one.
 #[derive(Clone, Copy)]
-pub enum Surveyed {
-    Accepted(Facts, Header, Sought),
-    Refused(Refusal),
-}
-
-impl Surveyed {
-    // Why the list was refused.
-    pub fn refusal(self) -> Refusal
-        ensures { result ≡ refusal_of_surveyed self }
-    {
-        match self {
-            Surveyed::Accepted(_, _, _) => Refusal::Area,
-            Surveyed::Refused(r) => r,
-        }
-    }
+pub struct Surveyed {
+    pub facts: Facts,
+    pub header: Header,
+    pub found: Option<Entry>,
 }
 
 // A current list's checksum rule: with has_checksum the exclusive or of all used bytes is 0, without it the checksum byte is 0.
-fn checksum_holds(a: &[u8], h: Header) -> bool
-    requires { (h ≡ header_of a.now) × (h.used_size ≤ length a.now) }
-    ensures { result ≡ checksum_holds a.now }
+fn checksum_holds(list: List) -> bool
+    ensures { result ≡ checksum_holds list.entry.bytes.now }
 {
-    if h.flags % 2 == 1 {
-        return wire::xor_part(a, 0, h.used_size as usize) == 0;
+    let h = list.header;
+    if h.has_checksum() {
+        return wire::xor(&list.bytes[..h.used_size as usize]) == 0;
     }
     h.checksum == 0
 }
 
 // Edition 0.9's checksum rule, as source 000's validation step reckons it: the sum of the used bytes minus the checksum byte is the
-// checksum byte.
-fn sum_holds(a: &[u8], h: Header) -> bool
-    requires { (h ≡ header_of a.now) × (edition09.header_size ≤ h.used_size) × (h.used_size ≤ length a.now) }
-    ensures { result ≡ sum_holds a.now }
+// checksum byte. The header's size is asked for here and is no field of List: the checksum's patch (`with_checksum`) never asked for it.
+fn sum_holds(list: List) -> bool
+    requires { edition09.header_size ≤ list.header.used_size }
+    ensures { result ≡ sum_holds list.entry.bytes.now }
 {
-    let checksum = h.checksum;
-    let all = wire::sum_part(a, 0, h.used_size as usize);
-    checksum == std::num::wrapping_sub_u8(all, checksum)
+    let checksum = list.header.checksum;
+    let all = wire::sum(&list.bytes[..list.header.used_size as usize]);
+    checksum == all.wrapping_sub(checksum)
 }
 
-// The edition's checksum rule.
-fn summed(format: Format, a: &[u8], h: Header) -> bool
-    requires { (h ≡ header_of a.now) × (edition09.header_size ≤ h.used_size) × (h.used_size ≤ length a.now) }
-    ensures { result ≡ (edition_of format).summed a.now }
+// The edition's checksum rule. A match and no trait: with a type for each edition all that calls the survey would be generic for this line.
+fn summed(format: Format, list: List) -> bool
+    requires { edition09.header_size ≤ list.header.used_size }
+    ensures { result ≡ (edition_of format).summed list.entry.bytes.now }
 {
     match format {
-        Format::Current => checksum_holds(a, h),
-        Format::Edition09 => sum_holds(a, h),
+        Format::Current => checksum_holds(list),
+        Format::Edition09 => sum_holds(list),
     }
 }
 
 // Checks 1 to 8 of a list of an edition in the order of their numbers, 5 only for an edit or a conversion; with the header, and
-// the wanted entry.
-pub fn survey_of(format: Format, editing: bool, area: &[u8], base: u64, w: Wanted) -> Surveyed
+// the wanted entry. Area and base are two parameters here and above, as they are two of each C call; but `usable` and places nothing reads a base.
+pub fn survey(
+    format: Format,
+    editing: bool,
+    area: &[u8],
+    base: u64,
+    w: Wanted,
+) -> Result<Surveyed, Refusal>
     ensures { result ≡ survey_in (edition_of format) editing area.now base w }
 {
-    let headed = header::check_header(format, editing, area, base);
-    let Headed::Good(h) = headed else {
-        return Surveyed::Refused(headed.refusal());
+    let header = header::check_header(format, editing, area, base)?;
+    let list = List {
+        bytes: area,
+        header,
     };
-    if !summed(format, area, h) {
-        return Surveyed::Refused(Refusal::Checksum);
+    if !summed(format, list) {
+        return Err(Refusal::Checksum);
     }
-    match cursor::walk(area, h, w) {
-        Walked::Counts(live, voids, found) => Surveyed::Accepted(
-            Facts {
-                version: h.version as u32,
-                used: h.used_size,
-                total: h.total_size,
-                alignment: h.alignment as u32,
-                live,
-                voids,
-            },
-            h,
-            found,
-        ),
-        Walked::Broken(at) => Surveyed::Refused(Refusal::Entry(at)),
-    }
-}
-
-// The survey of a current list.
-pub fn survey(editing: bool, area: &[u8], base: u64, w: Wanted) -> Surveyed
-    ensures { result ≡ survey_of editing area.now base w }
-{
-    survey_of(Format::Current, editing, area, base, w)
+    let counts = cursor::walk(list, w)?;
+    Ok(Surveyed {
+        facts: Facts {
+            version: header.version as u32,
+            used: header.used_size,
+            total: header.total_size,
+            alignment: header.alignment as u32,
+            live: counts.live,
+            voids: counts.voids,
+        },
+        header,
+        found: counts.found,
+    })
 }
 
 // The check of the area's bytes at a stated base, as a list of an edition.
-pub fn check_of(format: Format, area: &[u8], base: u64) -> Checked
+pub fn check(format: Format, area: &[u8], base: u64) -> Result<Facts, Refusal>
     ensures { result ≡ checks_of (edition_of format) false area.now base }
 {
-    match survey_of(format, false, area, base, Wanted::nothing()) {
-        Surveyed::Accepted(facts, _, _) => Checked::Accepted(facts),
-        Surveyed::Refused(r) => Checked::Refused(r),
-    }
+    Ok(survey(format, false, area, base, Wanted::nothing())?.facts)
 }
 
-// The check of a current list.
-pub fn check(area: &[u8], base: u64) -> Checked
-    ensures { result ≡ check_rule area.now base }
-{
-    check_of(Format::Current, area, base)
-}
-
-// Another wanted entry of a list that was surveyed, whose header is h.
-pub fn seek(a: &[u8], h: Header, w: Wanted) -> Sought
+// Another wanted entry of a list that was surveyed, whose header is h. No List is asked for: the one caller would make it for this call alone.
+pub fn seek(a: &[u8], h: Header, w: Wanted) -> Option<Entry>
     requires { (h ≡ header_of a.now) × (first_entry h ≤ h.used_size) × (h.used_size ≤ length a.now) }
-    ensures { result ≡ sought (wanted_of w (entries_of a.now)) }
+    ensures { result ≡ wanted_of w (entries_of a.now) }
 {
-    match cursor::walk(a, h, w) {
-        Walked::Counts(_, _, found) => found,
-        Walked::Broken(_) => Sought::Nothing,
-    }
+    let list = List {
+        bytes: a,
+        header: h,
+    };
+    cursor::walk(list, w).ok()?.found
 }

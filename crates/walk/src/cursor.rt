@@ -7,8 +7,10 @@ ghost use Rattle.walk.specs.Cursor.{fitted, judged, step_at};
 ghost use Rattle.walk.specs.Wanted.{told};
 
 use crate::header;
-use crate::wanted::{Memory, Sought, Wanted};
-use rules::{Entry, Header};
+use crate::wanted::{Memory, Wanted};
+use rules::list::List;
+use rules::{Entry, Header, Refusal};
+use wire::Number;
 
 // A place in the list, from which the walk goes on.
 #[derive(Clone, Copy)]
@@ -16,19 +18,12 @@ pub(crate) struct Cursor {
     pub(crate) at: usize,
 }
 
-// What stands at a cursor's place: an entry with the cursor behind it, the end of the list, or an entry that breaks a rule.
+// The walk's numbers of live and void entries, and the wanted entry, if there is one.
 #[derive(Clone, Copy)]
-pub(crate) enum Step {
-    Next(Entry, Cursor),
-    End,
-    Broken,
-}
-
-// The walk's numbers of live and void entries and the wanted entry, or the place of the first entry that breaks a rule.
-#[derive(Clone, Copy)]
-pub(crate) enum Walked {
-    Counts(u32, u32, Sought),
-    Broken(u32),
+pub(crate) struct Counts {
+    pub(crate) live: u32,
+    pub(crate) voids: u32,
+    pub(crate) found: Option<Entry>,
 }
 
 // The entry at a place. Its header's eight bytes are read as one number.
@@ -36,7 +31,7 @@ pub fn entry_at(a: &[u8], at: usize) -> Entry
     requires { at + entry_header_size ≤ length a.now }
     ensures { result ≡ entry_at a.now at }
 {
-    let w = wire::read8(a, at);
+    let w = u64::read(a, at);
     Entry {
         at,
         tag_id: (w % 0x100_0000) as u32,
@@ -45,34 +40,34 @@ pub fn entry_at(a: &[u8], at: usize) -> Entry
     }
 }
 
-// The bytes that an entry takes. The sum is made in 64 bits, so that a huge data_size does not wrap.
+// The bytes that an entry takes, rounded up as the rules write it. The sum is made in 64 bits, so that a huge data_size does not wrap.
 fn span(e: Entry) -> usize
     ensures { result ≡ span_rule e }
 {
     (e.hdr_size as usize + e.data_size as usize + 7) / 8 * 8
 }
 
-// The bytes that an entry with a header of eight bytes takes.
+// The bytes that an entry with a header of eight bytes takes: by itself, since `judge` takes it first.
 pub fn entry_span(data_size: u32) -> usize
     ensures { result ≡ entry_span data_size }
 {
     (data_size as usize + 15) / 8 * 8
 }
 
-// What an entry of n bytes comes to where its header size breaks no rule.
-fn fit(left: usize, n: usize, e: Entry) -> Step
+// The cursor behind an entry of n bytes whose header size breaks no rule, if it breaks no other.
+fn fit(left: usize, n: usize, e: Entry) -> Option<Cursor>
     requires { e.at + left < 2 ^ 64 }
     ensures { result ≡ fitted left n e }
 {
     if (left < n) | ((e.tag_id == 0) & (e.data_size % 8 != 0)) {
-        return Step::Broken;
+        return None;
     }
-    Step::Next(e, Cursor { at: e.at + n })
+    Some(Cursor { at: e.at + n })
 }
 
-// Refusal 8 of an entry with left bytes from its place up to used_size, or the cursor behind it. A header of eight bytes is
+// The cursor behind an entry with left bytes from its place up to used_size, if it breaks no rule. A header of eight bytes is
 // judged first: the next place then waits for the data's size alone.
-pub(crate) fn judge(version: u8, left: usize, e: Entry) -> Step
+pub(crate) fn judge(version: u8, left: usize, e: Entry) -> Option<Cursor>
     requires { e.at + left < 2 ^ 64 }
     ensures { result ≡ judged version left e }
 {
@@ -80,60 +75,56 @@ pub(crate) fn judge(version: u8, left: usize, e: Entry) -> Step
         return fit(left, entry_span(e.data_size), e);
     }
     if (version == Header::VERSION) | (e.hdr_size < Header::SMALLEST_ENTRY) {
-        return Step::Broken;
+        return None;
     }
     fit(left, span(e), e)
 }
 
 impl Cursor {
-    // The entry at the cursor's place, and the cursor behind it. No entry is read at used_size itself.
-    pub(crate) fn step(self, a: &[u8], version: u8, used: usize) -> Step
-        requires { (self.at ≤ used) × (used ≤ length a.now) }
-        ensures { result ≡ step_at version a.now used self.at }
+    // The entry at the cursor's place, and the cursor behind it; or refusal 8. No entry is read at used_size itself.
+    pub(crate) fn step(self, list: List) -> Result<Option<(Entry, Cursor)>, Refusal>
+        requires { self.at ≤ list.header.used_size }
+        ensures { result ≡ step_at list.entry.header.version list.entry.bytes.now list.entry.header.used_size self.at }
     {
         let at = self.at;
+        let used = list.header.used_size as usize;
+        let broken = Refusal::Entry(at as u32);
         if at == used {
-            return Step::End;
+            return Ok(None);
         }
         let left = used - at;
         if left < Header::SMALLEST_ENTRY as usize {
-            return Step::Broken;
+            return Err(broken);
         }
-        judge(version, left, entry_at(a, at))
+        let e = entry_at(list.bytes, at);
+        let next = judge(list.header.version, left, e).ok_or(broken)?;
+        Ok(Some((e, next)))
     }
 }
 
-// The one walk over the entries, which counts them and remembers the wanted one.
-pub(crate) fn walk(a: &[u8], h: Header, w: Wanted) -> Walked
-    requires { (first_entry h ≤ h.used_size) × (h.used_size ≤ length a.now) }
-    ensures { result ≡ told w (walk_of h a.now) }
+// The one walk over the entries, which counts them and remembers the wanted one; refusal 8 at the first that breaks a rule.
+pub(crate) fn walk(list: List, w: Wanted) -> Result<Counts, Refusal>
+    requires { first_entry list.header ≤ list.header.used_size }
+    ensures { result ≡ told w (walk_of list.entry.header list.entry.bytes.now) }
 {
-    let used = h.used_size as usize;
     let mut c = Cursor {
-        at: header::first_entry(h),
+        at: header::first_entry(list.header),
     };
     let mut live: u32 = 0;
     let mut voids: u32 = 0;
     let mut m = Memory::new(w);
-    loop {
-        let at = c.at;
-        match c.step(a, h.version, used) {
-            Step::Next(e, d) => {
-                c = d;
-                m = m.with(w, e);
-                if e.tag_id == 0 {
-                    voids += 1;
-                } else {
-                    live += 1;
-                }
-            }
-            Step::End => {
-                let found = m.found;
-                return Walked::Counts(live, voids, found);
-            }
-            Step::Broken => {
-                return Walked::Broken(at as u32);
-            }
+    while let Some((e, next)) = c.step(list)? {
+        c = next;
+        m = m.with(w, e);
+        if e.tag_id == 0 {
+            voids += 1;
+        } else {
+            live += 1;
         }
     }
+    Ok(Counts {
+        live,
+        voids,
+        found: m.found,
+    })
 }

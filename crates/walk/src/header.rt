@@ -7,29 +7,11 @@ ghost use Rattle.rules.specs.Refusals.{refuses_sizes, refuses_readonly};
 ghost use Rattle.rules.specs.Check.{fields_refusal};
 ghost use Rattle.rules.specs.Edition09.{edition09};
 ghost use Rattle.walk.specs.Format.{edition_of};
-ghost use Rattle.walk.specs.Headed.{headed, headed_of, refusal_of_headed};
+ghost use Rattle.walk.specs.Headed.{headed, headed_of};
 
 use crate::format::Format;
 use rules::{Header, Refusal};
-
-// A header that passed checks 1 to 6, or the refusal.
-#[derive(Clone, Copy)]
-pub(crate) enum Headed {
-    Good(Header),
-    Refused(Refusal),
-}
-
-impl Headed {
-    // Why the header was refused.
-    pub(crate) fn refusal(self) -> Refusal
-        ensures { result ≡ refusal_of_headed self }
-    {
-        match self {
-            Headed::Good(_) => Refusal::Area,
-            Headed::Refused(r) => r,
-        }
-    }
-}
+use wire::Number;
 
 // The header's fields, as the table has them. Edition 0.9's header ends before the flags: what is read there is not its own, and counts
 // 0 behind the area's end.
@@ -38,19 +20,19 @@ pub(crate) fn read_header(a: &[u8]) -> Header
     ensures { result ≡ header_of a.now }
 {
     Header {
-        signature: wire::read4(a, 0),
+        signature: u32::read(a, 0),
         checksum: a[4],
         version: a[5],
         hdr_size: a[6],
         alignment: a[7],
-        used_size: wire::read4(a, 8),
-        total_size: wire::read4(a, 12),
+        used_size: u32::read(a, 8),
+        total_size: u32::read(a, 12),
         flags: wire::read4_or_zeros(a, 16),
         reserved: wire::read4_or_zeros(a, 20),
     }
 }
 
-// The place of the first entry.
+// The place of the first entry, rounded up as the rules write it.
 pub(crate) fn first_entry(h: Header) -> usize
     ensures { result ≡ first_entry h }
 {
@@ -95,34 +77,44 @@ fn refuses_sizes(format: Format, h: Header, len: usize) -> bool
 }
 
 // Refusals 3 to 6 in the order of their numbers, of a header in an area of len bytes.
-pub(crate) fn check_fields(format: Format, editing: bool, len: usize, h: Header) -> Headed
+pub(crate) fn check_fields(
+    format: Format,
+    editing: bool,
+    len: usize,
+    h: Header,
+) -> Result<Header, Refusal>
     ensures { result ≡ headed h (fields_refusal (edition_of format) editing len h) }
 {
     if h.signature != format.signature() {
-        return Headed::Refused(Refusal::Signature);
+        return Err(Refusal::Signature);
     }
     if h.version == 0 {
-        return Headed::Refused(Refusal::Version);
+        return Err(Refusal::Version);
     }
     if refuses_readonly(editing, h) {
-        return Headed::Refused(Refusal::Readonly);
+        return Err(Refusal::Readonly);
     }
     if refuses_sizes(format, h, len) {
-        return Headed::Refused(Refusal::Sizes);
+        return Err(Refusal::Sizes);
     }
-    Headed::Good(h)
+    Ok(h)
 }
 
 // Refusals 1 to 6 in the order of their numbers, or the header.
-pub(crate) fn check_header(format: Format, editing: bool, area: &[u8], base: u64) -> Headed
+pub(crate) fn check_header(
+    format: Format,
+    editing: bool,
+    area: &[u8],
+    base: u64,
+) -> Result<Header, Refusal>
     ensures { result ≡ headed_of (edition_of format) editing area.now base }
 {
     let len = area.len();
     if !usable(base, len) {
-        return Headed::Refused(Refusal::Area);
+        return Err(Refusal::Area);
     }
     if len < format.header_size() as usize {
-        return Headed::Refused(Refusal::Short);
+        return Err(Refusal::Short);
     }
     check_fields(format, editing, len, read_header(area))
 }

@@ -12,22 +12,15 @@ pub struct Wanted {
     pub n: u64,
 }
 
-// The entry that was looked for, or that there is none.
-#[derive(Clone, Copy)]
-pub enum Sought {
-    At(Entry),
-    Nothing,
-}
-
 // How many of the wanted kind are to pass before the wanted one, and that one once it was met.
 #[derive(Clone, Copy)]
 pub(crate) struct Memory {
     left: u64,
-    pub(crate) found: Sought,
+    pub(crate) found: Option<Entry>,
 }
 
 impl Wanted {
-    // A want that no entry meets: its tag has four bytes, an entry's three.
+    // A want that no entry meets: its tag has four bytes, an entry's three. No Option of a want: each entry would be asked twice, whether and which.
     pub fn nothing() -> Wanted
         ensures { result ≡ nothing_wanted }
     {
@@ -53,7 +46,7 @@ impl Memory {
     {
         Memory {
             left: w.n,
-            found: Sought::Nothing,
+            found: None,
         }
     }
 
@@ -64,19 +57,18 @@ impl Memory {
         if !w.wants(e) {
             return self;
         }
-        let found = self.found;
-        let Sought::Nothing = found else {
+        let None = self.found else {
             return self;
         };
         if self.left == 0 {
             return Memory {
                 left: 0,
-                found: Sought::At(e),
+                found: Some(e),
             };
         }
         Memory {
             left: self.left - 1,
-            found: Sought::Nothing,
+            found: None,
         }
     }
 }

@@ -23,6 +23,8 @@ use Rattle.std.proofs.Common.{
   replicate,
   refl,
   ap,
+  ap₂,
+  sym,
   ◌∙◌,
   inl,
   inr,
@@ -42,6 +44,8 @@ use Rattle.std.proofs.Common.{
 use native.Mathlib.Nat.{pow-succ', div-div-eq-div-mul, one-le-pow}
 use lib.Arith.{mod-mul}
 use lib.ListN.{get_or-append}
+use Rattle.std.specs.Int.{w32, w64, bytes_low_first, byte_at, to_le_bytes, from_le_bytes}
+use Rattle.std.proofs.lemmas.Nat.{le_bytes_8}
 use Rattle.wire.specs.Bytes.{field, le_bytes, splice}
 use Rattle.wire.proofs.Range.{Bytes}
 use Rattle.wire.proofs.Splice.{get_or-splice_before, get_or-splice_in, get_or-splice-behind}
@@ -184,3 +188,37 @@ field-splice-other a at new bt k l (inl h) =
     field_cong (splice a at new) a bt bt k (λ i b. get_or-splice_before a at new l (bt + i) (omega arith))
 field-splice-other a at new bt k l (inr h) =
     field_cong (splice a at new) a bt bt k (λ i b. get_or-splice-behind a at new l (bt + i) (omega arith))
+
+-- ---- the library's words for the bytes of a number
+
+-- k bytes of a number from byte i upward
+pub low_first : (i k n : ℕ) → bytes_low_first i k n ≡ le_bytes k (n / 256 ^ i)
+unfolding le_bytes
+low_first i zero n = refl
+low_first i (suc k) n = ap₂ ◌∷◌ (head i) (low_first (suc i) k n ∙ ap (le_bytes k) (rest i))
+  where
+    head : (j : ℕ) → byte_at j n ≡ n / 256 ^ j % 256
+    head zero = rw div-one
+    head (suc j) = refl
+
+    rest : (j : ℕ) → n / 256 ^ suc j ≡ n / 256 ^ j / 256
+    rest j = rw (pow-suc, div-div-eq-div-mul)
+
+-- the library's bytes of a number are its bytes
+pub to_le_bytes-32 : (n : ℕ) → to_le_bytes w32 n ≡ le_bytes 4 n
+to_le_bytes-32 n = low_first 0 4 n ∙ ap (le_bytes 4) (omega arith)
+
+pub to_le_bytes-64 : (n : ℕ) → to_le_bytes w64 n ≡ le_bytes 8 n
+to_le_bytes-64 n = low_first 0 8 n ∙ ap (le_bytes 8) (omega arith)
+
+-- the bytes of the number that the library makes of eight bytes are those bytes
+pub le_bytes-word : (w : List ℕ) (n : ℕ) → length w ≡ 8 → Bytes w → n ≡ from_le_bytes w64 w → le_bytes 8 n ≡ w
+le_bytes-word w n l b e = sym (to_le_bytes-64 n) ∙ le_bytes_8 w n l b e
+
+-- the number that the library makes of the four bytes from at on is the field
+pub four-bytes : (a : List ℕ) (at : ℕ) → from_le_bytes w32 (get_or a at 0 ∷ get_or a (at + 1) 0 ∷ get_or a (at + 2) 0 ∷ get_or a (at + 3) 0 ∷ []) ≡ field a at 4
+unfolding field
+four-bytes a at =
+    let second : at + 1 + 1 ≡ at + 2 = omega arith in
+    let third : at + 2 + 1 ≡ at + 3 = omega arith in
+    rw (second, third) (omega arith)

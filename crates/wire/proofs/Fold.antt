@@ -11,6 +11,15 @@ use Rattle.std.proofs.Common.{
   ◌^◌,
   ◌≤◌,
   List,
+  ◌<◌,
+  [],
+  ◌++◌,
+  append-nil,
+  add-one,
+  suc-mul,
+  take_all,
+  arith,
+  get_or,
   length,
   take,
   drop,
@@ -18,16 +27,16 @@ use Rattle.std.proofs.Common.{
   refl,
   ap,
   ◌∙◌,
-  mul-one,
-  mul-add,
-  drop-drop,
   take-add,
+  take-suc,
 }
 use lib.Bits.{bit_xor, xor_zero_r, xor_comm, xor_mod, xor_shr}
-use Rattle.wire.specs.Bytes.{field, le_bytes, xor}
-use Rattle.wire.proofs.Range.{Bytes}
-use Rattle.wire.proofs.Field.{le_bytes-add, le_bytes-mod, le_bytes-field}
-use Rattle.wire.proofs.Xor.{xor_assoc, xor-append}
+use Rattle.std.specs.List.{concat}
+use Rattle.std.specs.Simd.{first_chunks}
+use Rattle.std.proofs.lemmas.List.Folds.{concat-append}
+use Rattle.wire.specs.Bytes.{le_bytes, xor}
+use Rattle.wire.proofs.Field.{le_bytes-add, le_bytes-mod}
+use Rattle.wire.proofs.XorLaws.{xor_assoc, xor-append}
 
 -- the inner two of four change places
 xor_middle : (a b c d : ℕ) → bit_xor (bit_xor a b) (bit_xor c d) ≡ bit_xor (bit_xor a c) (bit_xor b d)
@@ -63,53 +72,46 @@ pub fold_two : (n : ℕ) → xor (le_bytes 2 n) ≡ both (n % 256) (n / 256 % 25
 unfolding both xor le_bytes
 fold_two n = rw xor_zero_r
 
--- two stretches one behind the other
-pub xor-add : (a : List ℕ) (at m n : ℕ) → xor (take (m + n) (drop at a)) ≡ bit_xor (xor (take m (drop at a))) (xor (take n (drop (at + m) a)))
-xor-add a at m n =
-    ap xor (take-add m n (drop at a))
-    ∙ xor-append (take m (drop at a)) (take n (drop m (drop at a)))
-    ∙ ap (λ (x : List ℕ). bit_xor (xor (take m (drop at a))) (xor (take n x))) (drop-drop m at a)
+-- the bytes of the words of a list are its first bytes
+pub concat-chunks : (n k : ℕ) (a : List ℕ) → concat (first_chunks n k a) ≡ take (k * n) a
+concat-chunks n zero a = let none : 0 * n ≡ 0 = omega arith in rw none
+concat-chunks n (suc k) a =
+    let more : suc k * n ≡ n + k * n = rw suc-mul (omega arith) in
+    rw (more, take-add, concat-chunks n k (drop n a))
 
--- the exclusive or of n bytes of a from at on, under a name of its own, so that arithmetic can replace the length
-unfoldable pub part : List ℕ → ℕ → ℕ → ℕ
-part a at n = xor (take n (drop at a))
+-- words one behind the other
+pub xor-words : (p q : List (List ℕ)) → xor (concat (p ++ q)) ≡ bit_xor (xor (concat p)) (xor (concat q))
+xor-words p q = ap xor (concat-append p q) ∙ xor-append (concat p) (concat q)
 
-pub part-is : (a : List ℕ) (at n : ℕ) → xor (take n (drop at a)) ≡ part a at n
-unfolding part
-part-is a at n = refl
+-- the exclusive or of the first i words
+abbrev pub first_words : ℕ → List (List ℕ) → ℕ
+first_words i ws = xor (concat (take i ws))
 
--- the words of k bytes that stand in a from at on: word i
-abbrev pub word : ℕ → List ℕ → ℕ → ℕ → ℕ
-word k a i at = field a (at + k * i) k
-
--- the exclusive or of the first i of them
-abbrev pub words : ℕ → List ℕ → ℕ → ℕ → ℕ
-words k a i at = xor (take (k * i) (drop at a))
+-- all words
+pub first_words-all : (i : ℕ) (ws : List (List ℕ)) → length ws ≤ i → first_words i ws ≡ xor (concat ws)
+first_words-all i ws h = rw (take_all i ws h)
 
 -- one word more
-pub next_word : (k : ℕ) (a : List ℕ) (i at : ℕ) → Bytes a → at + k * i + k ≤ length a
-    → words k a (i + 1) at ≡ bit_xor (words k a i at) (xor (le_bytes k (word k a i at)))
-next_word k a i at h l =
-    let n : k * (i + 1) ≡ k * i + k = rw (mul-add, mul-one) in
-    rw (n, le_bytes-field a (at + k * i) k h l, xor-add)
+pub first_words-next : (i : ℕ) (ws : List (List ℕ)) → i < length ws → first_words (i + 1) ws ≡ bit_xor (first_words i ws) (xor (get_or ws i []))
+first_words-next i ws h = rw (add-one, take-suc ws i [] h, xor-words, append-nil)
 
 -- the exclusive or of what stands at four places
-abbrev pub of_four : (ℕ → ℕ) → ℕ → ℕ → ℕ → ℕ → ℕ
+abbrev pub of_four : {X : Type 0} → (X → ℕ) → X → X → X → X → ℕ
 of_four f p q r s = bit_xor (f p) (bit_xor (f q) (bit_xor (f r) (f s)))
 
--- one word more at each of four places
-pub next-words : (k : ℕ) (a : List ℕ) (i p q r s : ℕ) → Bytes a
-    → p + k * i + k ≤ length a → q + k * i + k ≤ length a → r + k * i + k ≤ length a → s + k * i + k ≤ length a
-    → of_four (words k a (i + 1)) p q r s ≡ bit_xor (of_four (words k a i) p q r s) (xor (le_bytes k (of_four (word k a i) p q r s)))
-next-words k a i p q r s h lp lq lr ls =
-    let w : ℕ → ℕ = words k a i in
-    let f : ℕ → ℕ = λ at. xor (le_bytes k (word k a i at)) in
-    rw (next_word k a i p h lp, next_word k a i q h lq, next_word k a i r h lr, next_word k a i s h ls, fold-xor, fold-xor, fold-xor)
-    (ap (λ (x : ℕ). bit_xor (bit_xor (w p) (f p)) (bit_xor (bit_xor (w q) (f q)) x)) (xor_middle (w r) (f r) (w s) (f s))
-    ∙ ap (bit_xor (bit_xor (w p) (f p))) (xor_middle (w q) (f q) (bit_xor (w r) (w s)) (bit_xor (f r) (f s)))
-    ∙ xor_middle (w p) (f p) (bit_xor (w q) (bit_xor (w r) (w s))) (bit_xor (f q) (bit_xor (f r) (f s))))
+-- one more at each of four places
+pub next_of_four : (p q r s e f g h : ℕ)
+    → bit_xor (bit_xor p e) (bit_xor (bit_xor q f) (bit_xor (bit_xor r g) (bit_xor s h)))
+    ≡ bit_xor (bit_xor p (bit_xor q (bit_xor r s))) (bit_xor e (bit_xor f (bit_xor g h)))
+next_of_four p q r s e f g h =
+    ap (λ (x : ℕ). bit_xor (bit_xor p e) (bit_xor (bit_xor q f) x)) (xor_middle r g s h)
+    ∙ ap (bit_xor (bit_xor p e)) (xor_middle q f (bit_xor r s) (bit_xor g h))
+    ∙ xor_middle p e (bit_xor q (bit_xor r s)) (bit_xor f (bit_xor g h))
 
--- four stretches of m bytes one behind the other
-pub four_stretches : (a : List ℕ) (at m : ℕ)
-    → of_four (λ (p : ℕ). xor (take m (drop p a))) at (at + m) (at + m + m) (at + m + m + m) ≡ xor (take (m + (m + (m + m))) (drop at a))
-four_stretches a at m = rw (xor-add, xor-add, xor-add)
+-- one word more of each of four quarters
+pub four-next : (i : ℕ) (a b c d : List (List ℕ)) → i < length a → i < length b → i < length c → i < length d
+    → of_four (first_words (i + 1)) a b c d ≡ bit_xor (of_four (first_words i) a b c d) (of_four (λ (ws : List (List ℕ)). xor (get_or ws i [])) a b c d)
+four-next i a b c d la lb lc ld =
+    rw (first_words-next i a la, first_words-next i b lb, first_words-next i c lc, first_words-next i d ld)
+    (next_of_four (first_words i a) (first_words i b) (first_words i c) (first_words i d)
+    (xor (get_or a i [])) (xor (get_or b i [])) (xor (get_or c i [])) (xor (get_or d i [])))

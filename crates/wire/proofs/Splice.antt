@@ -42,6 +42,7 @@ use Rattle.std.proofs.Common.{
 use lib.ListN.{get_or-append}
 use lib.Seq.{drop-length, take-append-le, drop-append-le}
 use lib.Seq.{set_split, sets, sets-eq}
+use borrow.Rule.Slice.PartMut.{put_mid}
 use Rattle.wire.specs.Bytes.{splice}
 
 -- what follows the first n of a longer part is the part of what follows them
@@ -173,3 +174,8 @@ splice_comm a at p b q h l =
 pub splice_all : (a new : List ℕ) → length new ≡ length a → splice a 0 new ≡ new
 unfolding splice
 splice_all a new e = rw (zero-add, e, drop-length, append-nil)
+
+-- the k bytes from at on written anew, as a write to a part of a slice leaves it
+pub put_mid-splice : (a : List ℕ) (at k : ℕ) (written new : List ℕ) → written ≡ new → k ≡ length new → put_mid at k a written ≡ splice a at new
+unfolding splice
+put_mid-splice a at k written new e n = rw (e, n, drop-drop)

@@ -1,194 +1,159 @@
 // Numbers, exclusive or, sums, zeros and copies on slices of bytes. Knows nothing of transfer lists.
 #![tactic(auto)]
 
-ghost use Rattle.std.specs.Prelude.{◌≡◌, ◌+◌, ◌*◌, ◌%◌, ◌^◌, ◌<◌, ◌≤◌, length, take, drop, replicate, slice_index};
+ghost use Rattle.std.specs.Prelude.{◌≡◌, ℕ, ◌+◌, ◌*◌, ◌%◌, ◌^◌, ◌<◌, ◌≤◌, length, replicate, slice_index};
+ghost use Rattle.std.specs.List.{concat};
 ghost use Rattle.wire.specs.Bytes.{field, le_bytes, xor, splice, sum};
 
-// A byte as a wider number: the cast asks for no proof here.
-fn wide(x: u8) -> u32
-    ensures { result ≡ x }
-{
-    x as u32
+// A little-endian number of so many bytes.
+pub trait Number {
+    ghost size: { ℕ };
+
+    ghost value: { Self → ℕ };
+
+    // The number of the bytes from at on.
+    fn read(s: &[u8], at: usize) -> Self
+        requires { at + size ≤ length s.now }
+        ensures { value result ≡ field s.now at size };
+
+    // The number's bytes, the least first, from at on.
+    fn write(self, a: &mut [u8], at: usize)
+        requires { at + size ≤ length a.old }
+        ensures { a.new ≡ splice a.old at (le_bytes size (value self)) };
+
+    // The exclusive or of its bytes, that is the number folded into a byte: the exclusive or of its halves, and so on down to a byte.
+    fn fold(self) -> u8
+        ensures { result ≡ xor (le_bytes size (value self)) };
 }
 
-// The same of four bytes.
-fn wide_u64(x: u32) -> u64
-    ensures { result ≡ x }
-{
-    x as u64
+impl Number for u32 {
+    ghost size = { 4 };
+
+    ghost value = { λ n. n };
+
+    fn read(s: &[u8], at: usize) -> u32 {
+        u32::from_le_bytes([s[at], s[at + 1], s[at + 2], s[at + 3]])
+    }
+
+    fn write(self, a: &mut [u8], at: usize) {
+        let bytes = self.to_le_bytes();
+        a[at..at + 4].copy_from_slice(&bytes);
+    }
+
+    fn fold(self) -> u8 {
+        let half = (self % 0x1_0000) ^ (self / 0x1_0000);
+        (half % 256) as u8 ^ (half / 256 % 256) as u8
+    }
 }
 
-// The little-endian number of the three bytes from at on.
-pub(crate) fn read3(s: &[u8], at: usize) -> u32
-    requires { at + 3 ≤ length s.now }
-    ensures { result ≡ field s.now at 3 }
-{
-    let b = at + 1;
-    let c = b + 1;
-    wide(s[at]) + 256 * (wide(s[b]) + 256 * wide(s[c]))
+impl Number for u64 {
+    ghost size = { 8 };
+
+    ghost value = { λ n. n };
+
+    fn read(s: &[u8], at: usize) -> u64 {
+        u64::from(u32::read(s, at)) + 0x1_0000_0000 * u64::from(u32::read(s, at + 4))
+    }
+
+    fn write(self, a: &mut [u8], at: usize) {
+        let bytes = self.to_le_bytes();
+        a[at..at + 8].copy_from_slice(&bytes);
+    }
+
+    fn fold(self) -> u8 {
+        let half = (self % 0x1_0000_0000) as u32 ^ (self / 0x1_0000_0000) as u32;
+        half.fold()
+    }
 }
 
-// The little-endian number of the four bytes from at on.
-pub fn read4(s: &[u8], at: usize) -> u32
-    requires { at + 4 ≤ length s.now }
-    ensures { result ≡ field s.now at 4 }
+// A word, that is eight bytes as a number.
+fn word(bytes: &[u8; 8]) -> u64
+    ensures { le_bytes 8 result ≡ bytes.now }
 {
-    wide(s[at]) + 256 * read3(s, at + 1)
+    u64::from_le_bytes(*bytes)
 }
 
-// The little-endian number of the eight bytes from at on.
-pub fn read8(s: &[u8], at: usize) -> u64
-    requires { at + 8 ≤ length s.now }
-    ensures { result ≡ field s.now at 8 }
+// A word that folds to the exclusive or of all words, whose number is a multiple of four. Each turn takes a word of each quarter: this loop
+// takes the same time wherever the linker puts it, which the loop over single bytes does not (decision 64).
+fn xor_quarters(words: &[[u8; 8]]) -> u64
+    requires { length words.now % 4 ≡ 0 }
+    ensures { xor (le_bytes 8 result) ≡ xor (concat words.now) }
 {
-    wide_u64(read4(s, at)) + 0x1_0000_0000 * wide_u64(read4(s, at + 4))
-}
-
-// The low three bytes of n, the least first, from at on.
-pub(crate) fn write3(a: &mut [u8], at: usize, n: u32)
-    requires { at + 3 ≤ length a.old }
-    ensures { a.new ≡ splice a.old at (le_bytes 3 n) }
-{
-    let b = at + 1;
-    let c = b + 1;
-    a[at] = (n % 256) as u8;
-    a[b] = (n / 256 % 256) as u8;
-    a[c] = (n / 256 / 256 % 256) as u8;
-}
-
-// The four bytes of n, the least first, from at on.
-pub fn write4(a: &mut [u8], at: usize, n: u32)
-    requires { at + 4 ≤ length a.old }
-    ensures { a.new ≡ splice a.old at (le_bytes 4 n) }
-{
-    let d = at + 3;
-    write3(a, at, n);
-    a[d] = (n / 256 / 256 / 256 % 256) as u8;
-}
-
-// The eight bytes of n, the least first, from at on.
-pub fn write8(a: &mut [u8], at: usize, n: u64)
-    requires { at + 8 ≤ length a.old }
-    ensures { a.new ≡ splice a.old at (le_bytes 8 n) }
-{
-    write4(a, at, (n % 0x1_0000_0000) as u32);
-    write4(a, at + 4, (n / 0x1_0000_0000) as u32);
-}
-
-// The exclusive or of the four bytes of n, that is n folded into a byte: the exclusive or of its halves, and then of that half's two bytes.
-pub fn xor4(n: u32) -> u8
-    ensures { result ≡ xor (le_bytes 4 n) }
-{
-    let half = (n % 0x1_0000) ^ (n / 0x1_0000);
-    (half % 256) as u8 ^ (half / 256 % 256) as u8
-}
-
-// The exclusive or of the eight bytes of n, that is n folded into a byte.
-pub fn xor8(n: u64) -> u8
-    ensures { result ≡ xor (le_bytes 8 n) }
-{
-    xor4((n % 0x1_0000_0000) as u32 ^ (n / 0x1_0000_0000) as u32)
-}
-
-// A word, that is eight bytes, that folds to the exclusive or of 4 times n words from at on. Each turn takes a word of each quarter:
-// this loop takes the same time wherever the linker puts it, which the loop over single bytes does not (decision 64).
-fn xor_quarters(s: &[u8], at: usize, n: usize) -> u64
-    requires { at + 32 * n ≤ length s.now }
-    ensures { xor (le_bytes 8 result) ≡ xor (take (32 * n) (drop at s.now)) }
-{
-    let second = at + 8 * n;
-    let third = second + 8 * n;
-    let fourth = third + 8 * n;
+    let n = words.len() / 4;
+    let (first, others) = words.split_at(n);
+    let (second, others) = others.split_at(n);
+    let (third, fourth) = others.split_at(n);
     let mut x: u64 = 0;
-    let mut i: usize = 0;
-    while i < n {
-        let j = 8 * i;
-        let upper = read8(s, third + j) ^ read8(s, fourth + j);
-        x = x ^ (read8(s, at + j) ^ (read8(s, second + j) ^ upper));
-        i += 1;
+    for i in 0..n {
+        let upper = word(&third[i]) ^ word(&fourth[i]);
+        x ^= word(&first[i]) ^ (word(&second[i]) ^ upper);
     }
     x
 }
 
-// A word that folds to the exclusive or of the n words from at on, one by one.
-fn xor_stream(s: &[u8], at: usize, n: usize) -> u64
-    requires { at + 8 * n ≤ length s.now }
-    ensures { xor (le_bytes 8 result) ≡ xor (take (8 * n) (drop at s.now)) }
+// A word that folds to the exclusive or of all words, one by one.
+fn xor_stream(words: &[[u8; 8]]) -> u64
+    ensures { xor (le_bytes 8 result) ≡ xor (concat words.now) }
 {
     let mut x: u64 = 0;
-    let mut i: usize = 0;
-    while i < n {
-        x = x ^ read8(s, at + 8 * i);
-        i += 1;
+    for bytes in words {
+        x ^= word(bytes);
     }
     x
 }
 
-// A word that folds to the exclusive or of the n words from at on: the first n / 8 * 8 in quarters of an even number of words, so that all
-// four start alike modulo 16 bytes (decision 65); the last n % 8 one by one.
-fn xor_words(s: &[u8], at: usize, n: usize) -> u64
-    requires { at + 8 * n ≤ length s.now }
-    ensures { xor (le_bytes 8 result) ≡ xor (take (8 * n) (drop at s.now)) }
+// A word that folds to the exclusive or of all words: most in quarters of an even number of words, so that all four start alike modulo 16
+// bytes (decision 65); the last, fewer than eight, one by one.
+fn xor_words(words: &[[u8; 8]]) -> u64
+    ensures { xor (le_bytes 8 result) ≡ xor (concat words.now) }
 {
-    let quarter = n / 8 * 2;
-    xor_quarters(s, at, quarter) ^ xor_stream(s, at + 32 * quarter, n % 8)
+    let (quarters, others) = words.split_at(words.len() / 8 * 8);
+    xor_quarters(quarters) ^ xor_stream(others)
 }
 
-// The exclusive or of the n bytes from at on, one by one.
-pub fn xor_bytes(s: &[u8], at: usize, n: usize) -> u8
-    requires { at + n ≤ length s.now }
-    ensures { result ≡ xor (take n (drop at s.now)) }
+// The exclusive or of the bytes, one by one.
+pub fn xor_bytes(part: &[u8]) -> u8
+    ensures { result ≡ xor part.now }
 {
     let mut x: u8 = 0;
-    let mut i: usize = 0;
-    while i < n {
-        x = x ^ s[at + i];
-        i += 1;
+    for byte in part {
+        x ^= *byte;
     }
     x
 }
 
-// The exclusive or of the n bytes from at on: eight bytes at a time, single bytes only where fewer than eight are left.
-pub fn xor_part(s: &[u8], at: usize, n: usize) -> u8
-    requires { at + n ≤ length s.now }
-    ensures { result ≡ xor (take n (drop at s.now)) }
+// The exclusive or of the bytes: eight bytes at a time, single bytes only where fewer than eight are left.
+pub fn xor(part: &[u8]) -> u8
+    ensures { result ≡ xor part.now }
 {
-    let words = n / 8;
-    xor8(xor_words(s, at, words)) ^ xor_bytes(s, at + 8 * words, n % 8)
+    let (words, others) = part.as_chunks::<8>();
+    xor_words(words).fold() ^ xor_bytes(others)
 }
 
-// Zero in the n bytes from at on.
+// Zero in the n bytes from at on. The whole slice with a place in it and no part: callers reckon with all bytes, as `splice` does.
 pub fn zero_part(a: &mut [u8], at: usize, n: usize)
     requires { at + n ≤ length a.old }
     ensures { a.new ≡ splice a.old at (replicate n 0) }
 {
-    let mut i: usize = 0;
-    while i < n {
-        a[at + i] = 0;
-        i += 1;
+    // The compiler makes one call of memset of this loop; of `fill` it makes a call and a store behind it.
+    for byte in &mut a[at..at + n] {
+        *byte = 0;
     }
 }
 
-// The bytes of src from at on.
+// The bytes of src from at on. The whole slice with a place in it, for the same reason.
 pub fn copy_part(a: &mut [u8], at: usize, src: &[u8])
     requires { at + length src.now ≤ length a.old }
     ensures { a.new ≡ splice a.old at src.now }
 {
-    let mut i: usize = 0;
-    while i < src.len() {
-        a[at + i] = src[i];
-        i += 1;
-    }
+    a[at..at + src.len()].copy_from_slice(src);
 }
 
 // The byte at a place, 0 behind the end.
 fn byte_or_zero(s: &[u8], at: usize) -> u8
     ensures { result ≡ slice_index s.now at }
 {
-    if at < s.len() {
-        return s[at];
-    }
-    0
+    s.get(at).copied().unwrap_or(0)
 }
 
 // The little-endian number of the four bytes from at on, of which those behind the end count 0.
@@ -197,24 +162,23 @@ pub fn read4_or_zeros(s: &[u8], at: usize) -> u32
     ensures { result ≡ field s.now at 4 }
 {
     if at + 4 <= s.len() {
-        return read4(s, at);
+        return u32::read(s, at);
     }
-    let b = at + 1;
-    let c = b + 1;
-    let low = wide(byte_or_zero(s, at)) + 256 * wide(byte_or_zero(s, b));
-    low + 65536 * (wide(byte_or_zero(s, c)) + 256 * wide(byte_or_zero(s, c + 1)))
+    u32::from_le_bytes([
+        byte_or_zero(s, at),
+        byte_or_zero(s, at + 1),
+        byte_or_zero(s, at + 2),
+        byte_or_zero(s, at + 3),
+    ])
 }
 
-// The sum modulo 256 of the n bytes from at on.
-pub fn sum_part(s: &[u8], at: usize, n: usize) -> u8
-    requires { at + n ≤ length s.now }
-    ensures { result ≡ sum (take n (drop at s.now)) % 256 }
+// The sum of the bytes modulo 256.
+pub fn sum(part: &[u8]) -> u8
+    ensures { result ≡ sum part.now % 256 }
 {
     let mut x: u8 = 0;
-    let mut i: usize = 0;
-    while i < n {
-        x = std::num::wrapping_add_u8(x, s[at + i]);
-        i += 1;
+    for byte in part {
+        x = x.wrapping_add(*byte);
     }
     x
 }

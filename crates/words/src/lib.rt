@@ -2,4 +2,18 @@
 #![tactic(auto)]
 
 pub mod bytes;
-pub mod search;
+mod search;
+
+ghost use Rattle.std.specs.Prelude.{length};
+ghost use Rattle.words.specs.Words.{Writable};
+
+use plan::Plan;
+
+// An edit before its first store: its plan, the area that still stands, and the data. The plan can be written into that area.
+#[derive(Clone, Copy)]
+pub struct Edit<'a> {
+    pub plan: Plan,
+    pub area: &'a [u8],
+    pub data: &'a [u8],
+    pub ghost writable: { Writable plan (length area.now) (length «data».now) },
+}

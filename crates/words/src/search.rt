@@ -1,72 +1,61 @@
-// The words that a plan changes: words 0 and 8 and those of its stretch are looked at, and no others.
-ghost use Rattle.std.specs.Prelude.{◌≡◌, ◌+◌, ◌-◌, ◌/◌, ◌%◌, ◌≤◌, length};
+// The words that a plan changes: words 0 and 1 and those of its stretch are looked at, and no others.
+ghost use Rattle.std.specs.Prelude.{◌≡◌, ℕ, ◌+◌, ◌-◌, ◌*◌, ◌/◌, ◌%◌, ◌≤◌, ◌&&◌, ltb, not, [], length};
 ghost use Rattle.journal.specs.Journal.{alike, words_from, changed_words};
 ghost use Rattle.plan.specs.Plan.{after};
-ghost use Rattle.words.specs.Words.{Writable, next_offset, skip_to};
+ghost use Rattle.words.specs.Words.{next_offset};
 
-use crate::bytes;
-use plan::Plan;
+use crate::Edit;
 
-// Whether the eight bytes from `at` on stay as they are.
-fn same_word(p: Plan, area: &[u8], data: &[u8], at: usize) -> bool
-    requires { Writable p (length area.now) (length «data».now) × (at + 8 ≤ length area.now) }
-    ensures { result ≡ alike area.now (after p area.now «data».now) at 8 }
-{
-    let mut same = true;
-    let mut k: usize = 8;
-    while 0 < k {
-        k -= 1;
-        let i = at + k;
-        same = (area[i] == bytes::byte_after(p, area, data, i)) & same;
+impl Edit<'_> {
+    // Whether the eight bytes from `at` on stay as they are.
+    fn same_word(&self, at: usize) -> bool
+        requires { at + 8 ≤ length self.now.area.now }
+        ensures { result ≡ alike self.now.area.now (after self.now.plan self.now.area.now self.now.data.now) at 8 }
+    {
+        (at..at + 8).all(|i| self.area[i] == self.byte_after(i))
     }
-    same
-}
 
-// From the header's words on to the plan's stretch.
-fn skip(at: usize, stretch: usize) -> usize
-    ensures { result ≡ skip_to at stretch }
-{
-    if (16 <= at) & (at < stretch) {
-        return stretch;
+    // Whether word w is one of the area's, and changes.
+    fn changes(&self, w: usize) -> bool
+        ensures { let old = self.now.area.now in
+            result ≡ (ltb w (length old / 8) && not (alike old (after self.now.plan old self.now.data.now) (8 * w) 8)) }
+    {
+        w < self.area.len() / 8 && !self.same_word(8 * w)
     }
-    at
-}
 
-// The offset of the first word from `from` on that changes, or the area's length where there is none.
-pub fn next_changed(p: Plan, area: &[u8], data: &[u8], from: usize) -> usize
-    requires { Writable p (length area.now) (length «data».now) × (from ≤ length area.now) × (from % 8 ≡ 0) }
-    ensures { result ≡ next_offset (length area.now)
-        (words_from ((length area.now - from) / 8) from area.now (after p area.now «data».now)) }
-{
-    let len = area.len();
-    let end = p.at + p.padding + 16 + data.len() + p.zeros;
-    let mut at = skip(from, p.at);
-    while 8 <= len - at {
-        if end <= at {
-            return len;
-        }
-        if !same_word(p, area, data, at) {
-            return at;
-        }
-        at = skip(at + 8, p.at);
+    // The word behind that of the header of the void behind the stretch: none changes from there on.
+    fn end(&self) -> usize
+        ensures { let old = self.now.area.now in
+            (w : ℕ) → result ≤ w → words_from ((length old - 8 * w) / 8) (8 * w) old (after self.now.plan old self.now.data.now) ≡ [] }
+    {
+        let p = self.plan;
+        let end = p.at + p.padding + 16 + self.data.len() + p.zeros;
+        end.div_ceil(8)
     }
-    len
-}
 
-// The number of words that change.
-pub fn changed_words(p: Plan, area: &[u8], data: &[u8]) -> usize
-    requires { Writable p (length area.now) (length «data».now) }
-    ensures { result ≡ length (changed_words area.now (after p area.now «data».now)) }
-{
-    let len = area.len();
-    let mut n: usize = 0;
-    let mut from: usize = 0;
-    loop {
-        let w = next_changed(p, area, data, from);
-        if w == len {
-            return n;
+    // The offset of the first word from `from` on that changes, or the area's length where there is none.
+    pub fn next_changed(&self, from: usize) -> usize
+        requires { (from ≤ length self.now.area.now) × (from % 8 ≡ 0) }
+        ensures { let old = self.now.area.now in
+            result ≡ next_offset (length old) (words_from ((length old - from) / 8) from old (after self.now.plan old self.now.data.now)) }
+    {
+        let first = from / 8;
+        let found = (first..2)
+            .chain(first.max(self.plan.at / 8)..self.end())
+            .find(|w| self.changes(*w));
+        match found {
+            Some(w) => 8 * w,
+            None => self.area.len(),
         }
-        n += 1;
-        from = w + 8;
+    }
+
+    // The number of words that change.
+    pub fn changed_words(&self) -> usize
+        ensures { result ≡ length (changed_words self.now.area.now (after self.now.plan self.now.area.now self.now.data.now)) }
+    {
+        (0..2)
+            .chain(self.plan.at / 8..self.end())
+            .filter(|w| self.changes(*w))
+            .count()
     }
 }

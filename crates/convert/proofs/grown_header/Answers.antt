@@ -4,4 +4,4 @@ use Rattle.convert.proofs.grown_header.Goals as goal
 
 pub returns : goal.returns
 unfolding grown_header
-returns c = rw c.fresh-new.ensures
+returns c = rw c.fresh.ensures

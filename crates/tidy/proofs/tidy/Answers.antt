@@ -1,27 +1,40 @@
--- A refused list is the answer; otherwise the list is admitted, and what is written is the rule's tidy list.
-use mathlib.Core.Path.{◌≡◌, sym, ◌∙◌}
+-- A refused list is the answer; otherwise the list is admitted. The voids joined, zeros in what is given back and the new used_size are the
+-- rule's list; byte 4 becomes its checksum, which seals it.
+use Rattle.std.proofs.Common.{sym, ◌∙◌, arith}
 use Rattle.rules.specs.Checksum.{seal}
-use Rattle.rules.specs.Outcome.{done}
-use Rattle.rules.specs.Tidy.{tidy_used, tidy_bytes, tidy}
-use Rattle.rules.specs.Edit.{run, to_tidy}
-use Rattle.walk.proofs.Survey as survey
+use Rattle.tidy.proofs.Laws.{rowed, long, ruled, bounds, written, sealable}
 use Rattle.tidy.proofs.tidy.Goals as goal
 
-pub returns-in_default : goal.returns-in_default
-returns-in_default c =
-    let k = c.in_default.is in
-    let r = survey.refused _ _ _ _ _ (sym c.survey-surveyed.ensures ∙ k) in
-    record { value = simp (c.refusal.ensures, k, r); area_after = simp r }
-
-pub write_tidy-requires : goal.write_tidy-requires
-write_tidy-requires c =
-    survey.admitted _ _ _ _ _ _ (sym c.survey-surveyed.ensures ∙ c.in-Accepted.is)
+pub join_voids-used-requires : goal.join_voids-used-requires
+join_voids-used-requires c = rowed _ _ _ _ (sym c.survey.ensures ∙ c.in_ok-h.was)
 
 pub returns : goal.returns
-unfolding tidy
+unfolding seal
 returns c =
-    let ruled : let a = c.args in run to_tidy a.area.now a.base ≡ done (tidy_used a.area.now) (seal (tidy_bytes a.area.now))
-    = (let t = (survey.accepted _ _ _ _ _ _ _ (sym c.survey-surveyed.ensures ∙ c.in-Accepted.is)).checked in
-    simp t) in
-    let e = ruled in
-    record { value = rw (e, c.write_tidy.ensures.value); area_after = rw e c.write_tidy.ensures.a_after }
+    let k = sym c.survey.ensures ∙ c.in_ok-h.was in
+    let u = c.join_voids-used.ensures.value in
+    let w = written _ _ _ _ k _ u _ _ _ c.join_voids-used.ensures.a_after c.zero_part.ensures c.write.ensures in
+    let e = ruled _ _ _ _ k in
+    record { value = rw (e, u); area_after = rw (e, c.fresh_checksum.ensures, w) }
+
+pub overflow_sub-h : goal.overflow_sub-h
+overflow_sub-h c = (bounds _ _ _ _ (sym c.survey.ensures ∙ c.in_ok-h.was) _ c.join_voids-used.ensures.value).0
+
+pub zero_part-requires : goal.zero_part-requires
+zero_part-requires c =
+    let b = bounds _ _ _ _ (sym c.survey.ensures ∙ c.in_ok-h.was) _ c.join_voids-used.ensures.value in
+    omega (arith, b.0, b.1)
+
+pub write-requires : goal.write-requires
+write-requires c =
+    omega (arith, long _ _ _ _ (sym c.survey.ensures ∙ c.in_ok-h.was), c.join_voids-used.auto.a, c.zero_part.auto.a)
+
+pub bounds-area-4 : goal.bounds-area-4
+bounds-area-4 c =
+    omega (arith, long _ _ _ _ (sym c.survey.ensures ∙ c.in_ok-h.was), c.join_voids-used.auto.a, c.zero_part.auto.a, c.write.auto.a)
+
+pub fresh_checksum-requires : goal.fresh_checksum-requires
+fresh_checksum-requires c =
+    let k = sym c.survey.ensures ∙ c.in_ok-h.was in
+    let u = c.join_voids-used.ensures.value in
+    sealable _ _ _ _ k _ u _ (written _ _ _ _ k _ u _ _ _ c.join_voids-used.ensures.a_after c.zero_part.ensures c.write.ensures)

@@ -6,5 +6,5 @@ use Rattle.transfer_list.proofs.tl09_convert.Goals as goal
 
 pub returns : goal.returns
 returns c =
-    let p = c.numbers.ensures ∙ ap done_answer c.convert.ensures.value in
+    let p = c.into.ensures ∙ ap done_answer c.convert.ensures.value in
     convert_promised _ _ _ _ _ _ p c.convert.ensures.target_after

@@ -7,5 +7,5 @@ use Rattle.transfer_list.proofs.tl_add.Goals as goal
 
 pub returns : goal.returns
 returns c =
-    let p = c.numbers.ensures ∙ ap done_answer c.add.ensures.value in
+    let p = c.into.ensures ∙ ap done_answer c.add.ensures.value in
     promised (to_add _ _ _) _ _ _ _ p c.add.ensures.area_after

@@ -7,5 +7,5 @@ use Rattle.transfer_list.proofs.tl_add_aligned.Goals as goal
 
 pub returns : goal.returns
 returns c =
-    let p = c.numbers.ensures ∙ ap done_answer c.add_aligned.ensures.value in
+    let p = c.into.ensures ∙ ap done_answer c.add_aligned.ensures.value in
     promised (to_add_aligned _ _ _) _ _ _ _ p c.add_aligned.ensures.area_after

@@ -4,4 +4,4 @@ use Rattle.rules.specs.Check.{check_answer}
 use Rattle.transfer_list.proofs.tl_check.Goals as goal
 
 pub returns : goal.returns
-returns c = c.numbers.ensures ∙ ap check_answer c.check.ensures
+returns c = c.into.ensures ∙ ap check_answer c.check.ensures

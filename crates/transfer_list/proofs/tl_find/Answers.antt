@@ -4,4 +4,4 @@ use Rattle.rules.specs.Find.{find_answer}
 use Rattle.transfer_list.proofs.tl_find.Goals as goal
 
 pub returns : goal.returns
-returns c = c.numbers.ensures ∙ ap find_answer c.find.ensures
+returns c = c.into.ensures ∙ ap find_answer c.find.ensures

@@ -7,5 +7,5 @@ use Rattle.transfer_list.proofs.tl_relocate.Goals as goal
 
 pub returns : goal.returns
 returns c =
-    let p = c.numbers.ensures ∙ ap done_answer c.relocate.ensures.value in
+    let p = c.into.ensures ∙ ap done_answer c.relocate.ensures.value in
     promised (to_relocate _ _) _ _ _ _ p c.relocate.ensures.target_after

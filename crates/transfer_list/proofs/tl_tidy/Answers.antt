@@ -7,5 +7,5 @@ use Rattle.transfer_list.proofs.tl_tidy.Goals as goal
 
 pub returns : goal.returns
 returns c =
-    let p = c.numbers.ensures ∙ ap done_answer c.tidy.ensures.value in
+    let p = c.into.ensures ∙ ap done_answer c.tidy.ensures.value in
     promised to_tidy _ _ _ _ p c.tidy.ensures.area_after

@@ -7,5 +7,5 @@ use Rattle.transfer_list.proofs.tl_void.Goals as goal
 
 pub returns : goal.returns
 returns c =
-    let p = c.numbers.ensures ∙ ap done_answer c.void.ensures.value in
+    let p = c.into.ensures ∙ ap done_answer c.void.ensures.value in
     promised (to_void _ _) _ _ _ _ p c.void.ensures.area_after

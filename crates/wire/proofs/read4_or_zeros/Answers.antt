@@ -1,8 +1,7 @@
--- Four bytes that are there are read as a number; else each is taken by itself, and the result is the field by its definition.
+-- The number of the four bytes is the field.
 use Rattle.std.proofs.Common.{arith}
-use Rattle.wire.specs.Bytes.{field}
+use Rattle.wire.proofs.Field.{four-bytes}
 use Rattle.wire.proofs.read4_or_zeros.Goals as goal
 
 pub returns : goal.returns
-unfolding field
-returns c = omega arith
+returns c = omega (arith, c.from_le_bytes.ensures, four-bytes c.args.s.now c.args.at)

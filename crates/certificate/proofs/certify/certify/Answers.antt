@@ -1,59 +1,42 @@
 -- What the check refuses is refused; of an accepted list occurrences 0 and 1 of the tag tell whether exactly one entry has it.
-use mathlib.Core.Path.{◌≡◌, sym, ap, ◌∙◌}
-use mathlib.Core.Bool.{false}
-use Rattle.rules.specs.Entries.{entries_of}
+use Rattle.std.specs.Prelude.{Err}
+use Rattle.std.proofs.Common.{◌≡◌, sym, ◌∙◌}
+use Rattle.rules.specs.declared.certificate.Uncertified.TheVariants.{Refused}
 use Rattle.rules.specs.Certificate.{certify}
-use Rattle.walk.specs.declared.wanted.Wanted.{Wanted}
-use Rattle.walk.specs.declared.check.Surveyed.TheVariants.{Accepted}
-use Rattle.walk.specs.Wanted.{wanted_of, sought}
-use Rattle.walk.specs.Survey.{survey_of}
+use Rattle.laws.proofs.Exits.{passed_up, ok_or-err, ok_or-ok}
 use Rattle.walk.proofs.Survey.{refused}
-use Rattle.certificate.proofs.Laws.{certificate_wanted, sought_in, searchable, within, none-there, second_there, one_there}
+use Rattle.certificate.proofs.Laws.{searchable, within, none-there, second_there, one_there}
 use Rattle.certificate.proofs.certify.certify.Goals as goal
 
-pub returns-in_default : goal.returns-in_default
+pub returns-in_err-survey : goal.returns-in_err-survey
 unfolding certify
-returns-in_default c =
-    let k = c.in_default.is in
-    let r = refused _ _ _ _ _ (sym c.survey-surveyed.ensures ∙ k) in
-    simp (c.refusal.ensures, k, r)
+returns-in_err-survey c =
+    let r = refused _ _ _ _ _ (sym c.survey.ensures ∙ c.in_err-survey.was) in
+    let p : c.from_residual.result ≡ Err (Refused c.in_err-survey.field-0.0) = passed_up c.from_residual.ensures.1 in
+    simp (p, r)
 
-pub returns-in_default-first : goal.returns-in_default-first
-returns-in_default-first c =
-    let accepts : let a = c.args in
-    survey_of false a.area.now a.base (certificate_wanted 0) ≡ Accepted c.in-Accepted.field-0 c.in-Accepted.h c.in-Accepted.first
-    = ap (survey_of false _ _) (sym c.wanted.ensures) ∙ sym c.survey-surveyed.ensures ∙ c.in-Accepted.is in
-    sym (none-there _ _ _ _ _ accepts _ _ c.in_default-first.is)
+pub returns-in_err-e : goal.returns-in_err-e
+returns-in_err-e c =
+    let n = ok_or-err _ _ _ (sym c.ok_or.ensures.value ∙ c.in_err-e.was) in
+    rw (passed_up c.from_residual-in_err-e.ensures.1, n.1)
+    (sym (none-there _ _ _ _ c.wanted.ensures (sym c.survey.ensures ∙ c.in_ok-survey.was) _ _ n.0))
 
 pub seek-requires : goal.seek-requires
-seek-requires c =
-    let accepts : let a = c.args in
-    survey_of false a.area.now a.base (certificate_wanted 0) ≡ Accepted c.in-Accepted.field-0 c.in-Accepted.h c.in-Accepted.first
-    = ap (survey_of false _ _) (sym c.wanted.ensures) ∙ sym c.survey-surveyed.ensures ∙ c.in-Accepted.is in
-    searchable _ _ _ _ _ accepts
+seek-requires c = searchable _ _ _ _ c.wanted.ensures (sym c.survey.ensures ∙ c.in_ok-survey.was)
 
-pub returns-in_default-seek : goal.returns-in_default-seek
-returns-in_default-seek c =
-    let accepts : let a = c.args in
-    survey_of false a.area.now a.base (certificate_wanted 0) ≡ Accepted c.in-Accepted.field-0 c.in-Accepted.h c.in-Accepted.first
-    = ap (survey_of false _ _) (sym c.wanted.ensures) ∙ sym c.survey-surveyed.ensures ∙ c.in-Accepted.is in
-    let sought-second : c.seek.result ≡ sought_in c.args.area.now 1
-    = c.seek.ensures ∙ ap (λ (w : Wanted). sought (wanted_of w (entries_of c.args.area.now))) c.wanted-2.ensures in
-    sym (second_there _ _ _ _ _ accepts _ _ _ (sym sought-second ∙ c.in_default-seek.is))
+pub returns-then-is_some : goal.returns-then-is_some
+returns-then-is_some c =
+    let k = sym c.survey.ensures ∙ c.in_ok-survey.was in
+    sym (second_there _ _ _ _ c.wanted.ensures k _ _ _ _ c.wanted-2.ensures c.seek.ensures c.if-is_some.ensures)
 
 pub certify_entry-requires : goal.certify_entry-requires
 certify_entry-requires c =
-    let accepts : let a = c.args in
-    survey_of false a.area.now a.base (certificate_wanted 0) ≡ Accepted c.in-Accepted.field-0 c.in-Accepted.h c.in-Accepted.first
-    = ap (survey_of false _ _) (sym c.wanted.ensures) ∙ sym c.survey-surveyed.ensures ∙ c.in-Accepted.is in
-    within _ _ _ _ _ accepts _ c.in-At.is
+    let f = ok_or-ok _ _ _ (sym c.ok_or.ensures.value ∙ c.in_ok-e.was) in
+    within _ _ _ _ c.wanted.ensures (sym c.survey.ensures ∙ c.in_ok-survey.was) _ f
 
 pub returns : goal.returns
 returns c =
-    let accepts : let a = c.args in
-    survey_of false a.area.now a.base (certificate_wanted 0) ≡ Accepted c.in-Accepted.field-0 c.in-Accepted.h c.in-Accepted.first
-    = ap (survey_of false _ _) (sym c.wanted.ensures) ∙ sym c.survey-surveyed.ensures ∙ c.in-Accepted.is in
-    let sought-second : c.seek.result ≡ sought_in c.args.area.now 1
-    = c.seek.ensures ∙ ap (λ (w : Wanted). sought (wanted_of w (entries_of c.args.area.now))) c.wanted-2.ensures in
-    let f = c.in-At.is in
-    c.certify_entry.ensures ∙ sym (one_there _ _ _ _ _ accepts _ _ _ f (sym sought-second ∙ c.in-Nothing.is))
+    let k = sym c.survey.ensures ∙ c.in_ok-survey.was in
+    let f = ok_or-ok _ _ _ (sym c.ok_or.ensures.value ∙ c.in_ok-e.was) in
+    c.certify_entry.ensures
+    ∙ sym (one_there _ _ _ _ c.wanted.ensures k _ _ _ _ c.wanted-2.ensures c.seek.ensures _ f c.if-is_some.ensures)

@@ -17,6 +17,3 @@ is-nan (fin s m e) h = absurd (let z : ◌≡◌ {A = ℕ} 0 1 = cc in omega ari
 pub returns-then-is_no_number : goal.returns-then-is_no_number
 unfolding div of_bits
 returns-then-is_no_number c = sym (is-nan _ (sym (nan_bits_is binary64 _) ∙ sym c.is_no_number.ensures ∙ c.if-is_no_number.true))
-
-pub float_from_bits-result : goal.float_from_bits-result
-float_from_bits-result c = rw (← c.is_no_number.ensures, c.if-is_no_number.false) tt

@@ -1,18 +1,12 @@
 -- The kind decides, as in the rule; each limit is the float of its pattern.
-use borrow.Author.Tests.{eq-eqb, ne_eqb}
-use Rattle.rules.specs.Certificate.{gate_of}
+use Rattle.certificate.proofs.Laws.{gate-kind}
 use Rattle.certificate.proofs.contents.gate_of.Goals as goal
 
-pub returns-then-c-eq-BAND : goal.returns-then-c-eq-BAND
-unfolding gate_of
-returns-then-c-eq-BAND c = simp (eq-eqb _ _ c.if-c-eq-BAND.true, c.float-low.ensures, c.float-high.ensures)
+pub returns-in-Band : goal.returns-in-Band
+returns-in-Band c = simp (gate-kind c.args.c _ _ c.try_from.ensures c.unwrap_or.ensures, c.in-Band.is, c.float-low.ensures, c.float-high.ensures)
 
-pub returns-then-c-eq-CEILING : goal.returns-then-c-eq-CEILING
-unfolding gate_of
-returns-then-c-eq-CEILING c =
-    simp (ne_eqb _ _ c.if-c-eq-BAND.false, eq-eqb _ _ c.if-c-eq-CEILING.true, c.float-high.ensures)
+pub returns-in-Ceiling : goal.returns-in-Ceiling
+returns-in-Ceiling c = simp (gate-kind c.args.c _ _ c.try_from.ensures c.unwrap_or.ensures, c.in-Ceiling.is, c.float-high.ensures)
 
-pub returns : goal.returns
-unfolding gate_of
-returns c =
-    simp (ne_eqb _ _ c.if-c-eq-BAND.false, ne_eqb _ _ c.if-c-eq-CEILING.false, c.float-low.ensures)
+pub returns-in-Floor : goal.returns-in-Floor
+returns-in-Floor c = simp (gate-kind c.args.c _ _ c.try_from.ensures c.unwrap_or.ensures, c.in-Floor.is, c.float-low.ensures)

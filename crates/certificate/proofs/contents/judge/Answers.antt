@@ -12,7 +12,7 @@ returns c =
     simp (
       ← c.refuses_contents.ensures,
       c.if-refuses_contents.false,
-      c.passes.ensures,
+      c.passes-pass.ensures,
       c.gate_of.ensures,
-      c.reading_of-x.ensures,
+      c.reading_of-reading.ensures,
     )

@@ -6,12 +6,12 @@ pub returns : goal.returns
 unfolding certificate_of
 returns c =
     rw (
-      c.read8.ensures,
-      c.read8-2.ensures,
-      c.read4.ensures,
-      c.read4-2.ensures,
-      c.read8-3.ensures,
-      c.read8-4.ensures,
-      c.read8-5.ensures,
-      c.read8-6.ensures,
+      c.read.ensures,
+      c.read-2.ensures,
+      c.read-3.ensures,
+      c.read-4.ensures,
+      c.read-5.ensures,
+      c.read-6.ensures,
+      c.read-7.ensures,
+      c.read-8.ensures,
     )

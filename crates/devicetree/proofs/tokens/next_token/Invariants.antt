@@ -1,6 +1,5 @@
 -- Only NOPs stand from the place up to where the loop is, so the first other number is the token.
-use Prim.Native.Nat.{◌-◌, ◌≤◌}
-use lib.ListN.{length}
+use Rattle.std.proofs.Common.{◌-◌, ◌≤◌, length}
 use Rattle.devicetree.proofs.TokenLaws.{Skipped}
 use Rattle.devicetree.proofs.tokens.next_token.Given as goal
 

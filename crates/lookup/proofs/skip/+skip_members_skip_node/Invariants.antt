@@ -11,7 +11,7 @@ abbrev pub decreases-skip_node : goal.decreases-skip_node
 decreases-skip_node l = length l.s.now - l.at
 
 abbrev pub invariant-skip_members-loop-kind : goal.invariant-skip_members-loop-kind
-invariant-skip_members-loop-kind l = (l.fn.at ≤ l.p) × (l.p ≤ length l.s) × Goes l.s l.depth l.fn.at l.p
+invariant-skip_members-loop-kind l = (l.fn.at ≤ l.p) × Goes l.s l.depth l.fn.at l.p
 
 abbrev pub decreases-skip_members-loop-kind : goal.decreases-skip_members-loop-kind
 decreases-skip_members-loop-kind l = length l.s - l.p

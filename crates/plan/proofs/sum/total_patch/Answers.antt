@@ -1,17 +1,12 @@
 -- By the test of has_checksum, as in the definition; each number's exclusive or is what its call ensures.
-use Prim.Native.Nat.{◌%◌}
-use borrow.Author.Tests.{eq-eqb, ne_eqb}
 use Rattle.plan.specs.Plan.{total_patch}
 use Rattle.plan.proofs.sum.total_patch.Goals as goal
 
-pub returns-then-h-eq1 : goal.returns-then-h-eq1
+pub returns-then-has_checksum : goal.returns-then-has_checksum
 unfolding total_patch
-returns-then-h-eq1 c =
-    let h = c.args.h in
-    rw (eq-eqb (h.flags % 2) 1 c.if-h-eq1.true, c.xor4.ensures, c.xor4-then-h-eq1.ensures)
+returns-then-has_checksum c =
+    simp (← c.has_checksum.ensures, c.if-has_checksum.true, c.fold.ensures, c.fold-then-has_checksum.ensures)
 
 pub returns : goal.returns
 unfolding total_patch
-returns c =
-    let h = c.args.h in
-    rw (ne_eqb (h.flags % 2) 1 c.if-h-eq1.false)
+returns c = simp (← c.has_checksum.ensures, c.if-has_checksum.false)

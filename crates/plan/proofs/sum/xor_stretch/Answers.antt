@@ -2,7 +2,6 @@
 use mathlib.Core.Path.{sym, ap, ap₂, ◌∙◌}
 use Prim.Native.Nat.{ℕ}
 use lib.Bits.{bit_xor}
-use lib.Seq.{take-length}
 use Rattle.wire.specs.Bytes.{le_bytes, xor}
 use Rattle.laws.proofs.EntryBytes.{entry_word_lem}
 use Rattle.plan.proofs.Laws.{xor-stretch_of}
@@ -14,9 +13,8 @@ returns c =
     let p = a.p in
     let tag = c.requires.2 in
     let entry =
-    c.xor8.ensures
+    c.fold.ensures
     ∙ ap (λ (w : ℕ). xor (le_bytes 8 w)) c.entry_word.ensures
     ∙ ap xor (entry_word_lem p.tag_id p.data_size tag) in
-    let content = c.xor_part.ensures ∙ ap xor (take-length a.«data».now) in
-    ap₂ bit_xor c.xor_void.ensures (ap₂ bit_xor entry (ap₂ bit_xor content c.xor_void-2.ensures))
+    ap₂ bit_xor c.xor_void.ensures (ap₂ bit_xor entry (ap₂ bit_xor c.xor.ensures c.xor_void-2.ensures))
     ∙ sym (xor-stretch_of p a.«data».now)

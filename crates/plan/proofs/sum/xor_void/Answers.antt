@@ -14,6 +14,6 @@ returns-then-n-lt8 c = sym (ap xor (no_header c.args.n (omega arith)))
 pub returns : goal.returns
 returns c =
     let n : ℕ = c.args.n in
-    c.xor8.ensures
+    c.fold.ensures
     ∙ ap (λ (w : ℕ). xor (le_bytes 8 w)) c.entry_word.ensures
     ∙ ap xor (entry_word_lem 0 (n - 8) (omega arith) ∙ sym (some-header n (omega arith)))

@@ -18,11 +18,11 @@ returns c =
     let h : List ℕ = entry_header a.tag a.size in
     let zeros : List ℕ = replicate a.zeros 0 in
     let word = ap (le_bytes 8) c.entry_word.ensures ∙ entry_word_lem a.tag a.size c.requires.1 in
-    let header : c.write8.new.a ≡ splice l a.at h = c.write8.ensures ∙ ap (splice l a.at) word in
+    let header : c.write.new.a ≡ splice l a.at h = c.write.ensures ∙ ap (splice l a.at) word in
     let k : length h ≡ 8 = length-entry_header a.tag a.size in
     c.zero_part.ensures
     ∙ ap (λ (x : List ℕ). splice x (a.at + 8 + length s) zeros) c.copy_part.ensures
-    ∙ splice-append c.write8.new.a (a.at + 8) s zeros (omega arith)
+    ∙ splice-append c.write.new.a (a.at + 8) s zeros (omega arith)
     ∙ ap (λ (x : List ℕ). splice x (a.at + 8) (s ++ zeros)) header
     ∙ ap (λ (n : ℕ). splice (splice l a.at h) (a.at + n) (s ++ zeros)) (sym k)
     ∙ splice-append l a.at h (s ++ zeros) (omega arith)

@@ -12,8 +12,8 @@ use Rattle.plan.proofs.write.write_fields.Goals as goal
 pub bounds-a-7 : goal.bounds-a-7
 bounds-a-7 c = simp length-set (omega arith)
 
-pub write4-requires : goal.write4-requires
-write4-requires c = simp length-set (omega arith)
+pub write-requires : goal.write-requires
+write-requires c = simp length-set (omega arith)
 
 pub returns : goal.returns
 unfolding fields_after le_bytes
@@ -22,5 +22,5 @@ returns c =
     let p = c.args.p in
     let m : p.alignment % 256 ≡ p.alignment = omega arith in
     let h : 7 < length (set a 4 p.checksum) = simp length-set (omega arith) in
-    c.write4.ensures
+    c.write.ensures
     ∙ ap (λ (x : List ℕ). splice x 8 (le_bytes 4 p.used_size)) (rw m (splice-set (set a 4 p.checksum) 7 p.alignment h))

@@ -16,6 +16,6 @@ returns-then-n-lt8 c =
 pub returns : goal.returns
 returns c =
     let a = c.args in
-    c.write8.ensures
+    c.write.ensures
     ∙ ap (λ (w : ℕ). splice a.a.now a.at (le_bytes 8 w)) c.entry_word.ensures
     ∙ ap (splice a.a.now a.at) (entry_word_lem 0 (a.n - 8) (omega arith) ∙ sym (some-header a.n (omega arith)))

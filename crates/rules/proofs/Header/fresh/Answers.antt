@@ -5,4 +5,4 @@ use Rattle.rules.proofs.Header.fresh.Goals as goal
 
 pub returns : goal.returns
 unfolding fresh_header
-returns c = rw as_number
+returns c = rw (c.into.ensures, as_number)

@@ -14,13 +14,13 @@ pub returns-then-refuses_journal : goal.returns-then-refuses_journal
 unfolding edit_start
 returns-then-refuses_journal c =
     let e = sym c.refuses_journal.ensures ∙ c.if-refuses_journal.true in
-    record { value = simp (e, c.stopped.ensures, c.refused.ensures); survives_where_accepted = λ k. absurd (true≢false (sym e ∙ k.accepted)) }
+    record { value = simp (e, c.stopped.ensures, c.into.ensures); survives_where_accepted = λ k. absurd (true≢false (sym e ∙ k.accepted)) }
 
 pub returns : goal.returns
 returns c =
     let a = c.args in
     let new = after a.p a.area.now a.«data».now in
-    let s = c.carrying-s.ensures in
+    let s = c.carrying.ensures in
     let bytes = subst (λ (x : Steps). (x.checksum < 256) × (x.alignment < 256)) s.value s.checksum_bound in
     let e = c.to_word.ensures
     ∙ edit_begins a.p new (memory a.journal.now a.area.now) _ _ (sym c.refuses_journal.ensures ∙ c.if-refuses_journal.false) s.value

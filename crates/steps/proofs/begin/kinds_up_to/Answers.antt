@@ -1,21 +1,20 @@
--- From the last record to the first: each turn adds one record in front.
-use Rattle.steps.proofs.Decision.{none_high, kinds_back, kinds_all}
-use lib.ListN.{length}
-use Prim.Native.Nat.{◌/◌}
-use native.Mathlib.Omega.{arith}
+-- The library's test of all records, record by record as the rules put it.
+use mathlib.Core.Path.{refl, ◌∙◌}
+use lib.Dec.{leb}
+use Prim.Native.Nat.{ℕ}
+use borrow.Author.Tests.{tests}
+use native.Mathlib.Nat.{sub-zero}
+use Rattle.std.proofs.Common.{rules}
+use Rattle.std.proofs.lemmas.Iterator.{YieldsList-from_range}
+use Rattle.std.proofs.lemmas.Iterator.Search.{all_from_yields_List}
+use Rattle.journal.specs.Journal.{records, kind}
+use Rattle.steps.proofs.Decision.{kinds_listed}
 use Rattle.steps.proofs.begin.kinds_up_to.Goals as goal
-
-pub loop-i-init : goal.loop-i-init
-loop-i-init c = let a = c.args in (omega arith, none_high a.most (length a.journal.now / 16) _ a.journal.now)
-
-pub loop-i-preserved : goal.loop-i-preserved
-loop-i-preserved c =
-    let l = c.loop-i in
-    let a = c.args in
-    (omega arith, kinds_back a.most (length a.journal.now / 16) l.i l.low a.journal.now (omega arith) (omega arith) l.invariant.1)
 
 pub returns : goal.returns
 returns c =
-    let l = c.loop-i in
-    let a = c.args in
-    kinds_all a.most (length a.journal.now / 16) l.i l.low a.journal.now (omega arith) l.invariant.1
+    let j = c.args.journal.now in
+    let low = λ (i : ℕ). leb (kind j i) c.args.most in
+    let each = YieldsList-from_range 0 c.records.result (records j) refl (sub-zero c.records.result ∙ c.records.ensures) in
+    all_from_yields_List low _ _ c.all.result c.all.ensures.ran each (λ x b q k. search (rules, tests))
+    ∙ kinds_listed c.args.most (records j) 0 j

@@ -11,5 +11,5 @@ returns c =
     let a = c.args in
     let m = memory a.journal.now a.area.now in
     let e : c.begin_with.result ≡ recover_start m = c.begin_with.ensures
-    ∙ rw (c.kinds_up_to-low.ensures, c.verdict-v.ensures, c.word_first.ensures) (start_is m) in
+    ∙ rw (c.kinds_up_to-low.ensures, c.from.ensures, c.verdict-v.ensures, c.records.ensures, c.word_first.ensures) (start_is m) in
     record { value = e; goes_as_recovery = rw e (recovery_goes m) }

@@ -1,14 +1,12 @@
 -- With has_checksum the exclusive or of the used bytes is compared, without it the checksum byte.
-use Rattle.std.proofs.Common.{eq-eqb, ne_eqb}
 use Rattle.rules.specs.Checksum.{checksum_holds}
 use Rattle.walk.proofs.check.checksum_holds.Goals as goal
 
-pub returns-then-h-eq1 : goal.returns-then-h-eq1
+pub returns-then-has_checksum : goal.returns-then-has_checksum
 unfolding checksum_holds
-returns-then-h-eq1 c =
-    simp (← c.requires.0, eq-eqb _ _ c.if-h-eq1.true, ← c.xor_part.ensures)
+returns-then-has_checksum c =
+    simp (← c.args.list.read, ← c.has_checksum.ensures, c.if-has_checksum.true, ← c.xor.ensures)
 
 pub returns : goal.returns
 unfolding checksum_holds
-returns c =
-    simp (← c.requires.0, ne_eqb _ _ c.if-h-eq1.false)
+returns c = simp (← c.args.list.read, ← c.has_checksum.ensures, c.if-has_checksum.false)

@@ -1,35 +1,29 @@
 -- What the walk tells of the wanted entry is of the list's own entries, none where the walk is broken.
-use Rattle.std.proofs.Common.{◌≡◌, ℕ, List, sym, refl, ap, ◌∙◌}
+use Rattle.std.specs.Prelude.{option_and_then}
+use Rattle.std.specs.Result.{result_ok}
+use Rattle.std.proofs.Common.{◌≡◌, ℕ, List, refl}
 use Rattle.rules.specs.declared.Header.{Header}
 use Rattle.rules.specs.Header.{header_of}
 use Rattle.rules.specs.Entries.{Walk, entries, broken, walk_of, walk, seen, entries_of}
+use Rattle.walk.specs.declared.cursor.Counts.{Counts}
 use Rattle.walk.specs.declared.wanted.Wanted.{Wanted}
-use Rattle.walk.specs.declared.wanted.Sought.{Sought}
-use Rattle.walk.specs.declared.wanted.Sought.TheVariants.{Nothing}
-use Rattle.walk.specs.declared.cursor.Walked.{Walked}
-use Rattle.walk.specs.declared.cursor.Walked.TheVariants.{Counts, Broken}
-use Rattle.walk.specs.Wanted.{wanted_in, wanted_of, sought, told}
+use Rattle.walk.specs.Wanted.{wanted_in, wanted_of, told}
 use Rattle.walk.proofs.check.seek.Goals as goal
 
--- the wanted entry that a walk tells
-abbrev found_in : Walked → Sought
-found_in (Counts live voids found) = found
-found_in (Broken at) = Nothing
-
-found-told : (w : Wanted) (k : Walk) → found_in (told w k) ≡ sought (wanted_of w (seen k))
+found-told : (w : Wanted) (k : Walk) → wanted_of w (seen k) ≡ option_and_then (λ (x : Counts). x.found) (result_ok (told w k))
 unfolding wanted_in
 found-told w (entries es) = refl
 found-told w (broken at) = refl
 
 -- of a list's own header it is one of the list's entries
-found-own : (w : Wanted) (a : List ℕ) (h : Header) → h ≡ header_of a → found_in (told w (walk_of h a)) ≡ sought (wanted_of w (entries_of a))
+found-own : (w : Wanted) (a : List ℕ) (h : Header) → h ≡ header_of a
+    → wanted_of w (entries_of a) ≡ option_and_then (λ (x : Counts). x.found) (result_ok (told w (walk_of h a)))
 unfolding walk entries_of
 found-own w a h e = rw e (found-told w (walk_of (header_of a) a))
 
-pub returns-in-Counts : goal.returns-in-Counts
-returns-in-Counts c =
-    ap found_in (sym c.in-Counts.is ∙ c.walk.ensures) ∙ found-own _ _ _ c.requires.0
+pub returns-in_err-ok : goal.returns-in_err-ok
+returns-in_err-ok c =
+    simp (c.from_residual.ensures, found-own c.args.w _ _ c.requires.0, ← c.walk.ensures, ← c.ok.ensures.value, c.in_err-ok.was)
 
-pub returns-in-Broken : goal.returns-in-Broken
-returns-in-Broken c =
-    ap found_in (sym c.in-Broken.is ∙ c.walk.ensures) ∙ found-own _ _ _ c.requires.0
+pub returns : goal.returns
+returns c = simp (found-own c.args.w _ _ c.requires.0, ← c.walk.ensures, ← c.ok.ensures.value, c.in_ok-ok.was)

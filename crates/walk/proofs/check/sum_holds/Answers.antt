@@ -1,8 +1,8 @@
 -- The sum of the other bytes is that of all of them minus the checksum byte, modulo 256.
-use Rattle.std.proofs.Common.{◌≡◌, ℕ, suc, ◌+◌, ◌%◌, ◌<◌, ◌≤◌, List, ◌∷◌, length, get_or, take, drop, ap, arith, length-take-le, get_or-take}
+use Rattle.std.proofs.Common.{◌≡◌, ℕ, suc, ◌+◌, ◌-◌, ◌%◌, ◌<◌, ◌≤◌, List, ◌∷◌, length, get_or, take, drop, ap, arith, length-take-le, get_or-take}
 use lib.Seq.{split_at}
 use Rattle.wire.specs.Bytes.{field, sum}
-use Rattle.wire.proofs.Sum.{sum-append}
+use Rattle.wire.proofs.SumLaws.{sum-append}
 use Rattle.rules.specs.declared.Header.{Header}
 use Rattle.rules.specs.Header.{header_of}
 use Rattle.rules.specs.Checksum.{without}
@@ -32,9 +32,8 @@ others a n c all r low high e p q byte =
 pub returns : goal.returns
 unfolding sum_holds
 returns c =
-    let h = c.args.h in
-    let e = ap (λ (x : Header). x.checksum) c.requires.0 in
-    let o =
-    others c.args.a.now h.used_size h.checksum _ c.wrapping_sub_u8.result (omega arith) c.requires.2 e c.sum_part-all.ensures
-    c.wrapping_sub_u8.ensures.value (omega arith) in
-    rw (o, ← c.requires.0)
+    let h = c.args.list.header in
+    let e = ap (λ (x : Header). x.checksum) c.args.list.read in
+    let others : (c.sum-all.result + (256 - h.checksum)) % 256 ≡ sum (without 4 (take h.used_size c.args.list.bytes.now)) % 256
+    = others c.args.list.bytes.now h.used_size h.checksum _ _ (omega arith) c.args.list.within e c.sum-all.ensures (omega arith) (omega arith) in
+    rw (← c.args.list.read, others)

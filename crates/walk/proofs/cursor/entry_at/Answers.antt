@@ -26,4 +26,4 @@ unfolding entry_at
 returns c =
     let a = c.args in
     let p : Parts a.a.now a.at = parts a.a.now a.at (λ i. omega (arith, c.type_inv.a i)) in
-    rw (c.read8-w.ensures, p.tag, p.header, p.size)
+    rw (c.read-w.ensures, p.tag, p.header, p.size)

@@ -7,9 +7,11 @@ use Rattle.walk.proofs.cursor.walk.Given as goal
 
 abbrev pub invariant-loop-e : goal.invariant-loop-e
 invariant-loop-e l =
-    (l.c.at ≤ l.used)
+    let h = l.list.header in
+    let a = l.list.bytes.now in
+    (l.c.at ≤ h.used_size)
     × ((l.live + l.voids) * 8 ≤ l.c.at)
-    × (told_from l.w l.live l.voids l.m (walk_from l.h.version l.a l.used l.c.at) ≡ told l.w (walk_of l.h l.a))
+    × (told_from l.w l.live l.voids l.m (walk_from h.version a h.used_size l.c.at) ≡ told l.w (walk_of h a))
 
 abbrev pub decreases-loop-e : goal.decreases-loop-e
-decreases-loop-e l = l.used - l.c.at
+decreases-loop-e l = l.list.header.used_size - l.c.at

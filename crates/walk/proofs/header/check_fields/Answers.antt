@@ -1,6 +1,6 @@
 -- Each refusal comes where the tests before it failed and its own held; the answers of the callees are the terms of the rules.
+use Rattle.std.specs.Prelude.{None, Some}
 use Rattle.std.proofs.Common.{◌≡◌, cond, eq-eqb, ne_eqb}
-use mathlib.Core.Option.{none, some}
 use Rattle.rules.specs.declared.Refusal.TheVariants.{Sizes}
 use Rattle.rules.specs.Check.{fields_refusal}
 use Rattle.walk.specs.Format.{edition_of}
@@ -29,7 +29,7 @@ returns-then-refuses_readonly c =
 pub returns-then-refuses_sizes : goal.returns-then-refuses_sizes
 unfolding fields_refusal
 returns-then-refuses_sizes c =
-    let sizes-decide : fields_refusal (edition_of c.args.format) c.args.editing c.args.len c.args.h ≡ cond c.refuses_sizes.result (some Sizes) none
+    let sizes-decide : fields_refusal (edition_of c.args.format) c.args.editing c.args.len c.args.h ≡ cond c.refuses_sizes.result (Some Sizes) None
     = simp (
       ← c.signature.ensures,
       eq-eqb _ _ c.if-h-signature.false,
@@ -43,7 +43,7 @@ returns-then-refuses_sizes c =
 pub returns : goal.returns
 unfolding fields_refusal
 returns c =
-    let sizes-decide : fields_refusal (edition_of c.args.format) c.args.editing c.args.len c.args.h ≡ cond c.refuses_sizes.result (some Sizes) none
+    let sizes-decide : fields_refusal (edition_of c.args.format) c.args.editing c.args.len c.args.h ≡ cond c.refuses_sizes.result (Some Sizes) None
     = simp (
       ← c.signature.ensures,
       eq-eqb _ _ c.if-h-signature.false,

@@ -16,7 +16,7 @@ returns c =
       one_byte,
       ← c.read4_or_zeros-2.ensures,
       ← c.read4_or_zeros.ensures,
-      ← c.read4-3.ensures,
-      ← c.read4-2.ensures,
-      ← c.read4.ensures,
+      ← c.read-3.ensures,
+      ← c.read-2.ensures,
+      ← c.read.ensures,
     )

@@ -6,16 +6,16 @@ use Rattle.rules.specs.Entries.{entry_header}
 use Rattle.words.proofs.Laws.{header-tag, header-size}
 use Rattle.words.proofs.bytes.header_byte.Goals as goal
 
-pub returns-then-k-lt3 : goal.returns-then-k-lt3
-returns-then-k-lt3 c =
+pub returns-in-0-to-2 : goal.returns-in-0-to-2
+returns-in-0-to-2 c =
     let a = c.args in
     c.byte_of.ensures ∙ sym (header-tag a.tag a.size a.k (omega arith))
 
-pub returns-then-k-eq3 : goal.returns-then-k-eq3
+pub returns-in-3 : goal.returns-in-3
 unfolding entry_header le_bytes
-returns-then-k-eq3 c = rw c.if-k-eq3.true
+returns-in-3 c = rw c.in-3.is
 
-pub returns : goal.returns
-returns c =
+pub returns-in_default : goal.returns-in_default
+returns-in_default c =
     let a = c.args in
-    c.byte_of-2.ensures ∙ sym (header-size a.tag a.size a.k (omega arith))
+    c.byte_of-in_default.ensures ∙ sym (header-size a.tag a.size a.k (omega arith))

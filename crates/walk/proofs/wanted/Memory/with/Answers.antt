@@ -11,8 +11,8 @@ returns-in_default c =
 
 pub returns-then-self-eq0 : goal.returns-then-self-eq0
 returns-then-self-eq0 c =
-    simp (← c.wants.ensures, c.if-not-wants.false, c.in-Nothing.is, eq-eqb _ _ c.if-self-eq0.true)
+    simp (← c.wants.ensures, c.if-not-wants.false, c.in-None.is, eq-eqb _ _ c.if-self-eq0.true)
 
 pub returns : goal.returns
 returns c =
-    simp (← c.wants.ensures, c.if-not-wants.false, c.in-Nothing.is, ne_eqb _ _ c.if-self-eq0.false)
+    simp (← c.wants.ensures, c.if-not-wants.false, c.in-None.is, ne_eqb _ _ c.if-self-eq0.false)

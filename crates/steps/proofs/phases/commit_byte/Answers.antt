@@ -1,9 +1,0 @@
--- The definition, by the same test.
-use borrow.Author.Tests.{lt-ltb, le-ltb}
-use Rattle.steps.proofs.phases.commit_byte.Goals as goal
-
-pub returns-then-byte-lt15 : goal.returns-then-byte-lt15
-returns-then-byte-lt15 c = simp (lt-ltb _ _ c.if-byte-lt15.true)
-
-pub returns : goal.returns
-returns c = simp (le-ltb _ _ c.if-byte-lt15.false)

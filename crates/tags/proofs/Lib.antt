@@ -1,2 +1,0 @@
--- Laws of the tag table.
-pub mod Laws
