@@ -1,8 +1,8 @@
 -- Laws of nodes and members: what the next token makes of them.
-use mathlib.Core.Path.{◌≡◌, sym, subst}
+use mathlib.Core.Path.{◌≡◌, sym, subst, ◌∙◌}
 use Prim.Native.Nat.{ℕ, suc, ◌≤◌, ◌<◌}
 use native.Mathlib.Omega.{arith}
-use mathlib.Core.Bool.{Bool, true, false}
+use mathlib.Core.Bool.{Bool, true, false, false≢true}
 use mathlib.Core.List.{List}
 use lib.ListN.{length}
 use Rattle.std.proofs.Common.{Option, Some, None}
@@ -26,6 +26,10 @@ module _ {s t : List ℕ} where
     members_bounds (close k) = let x = token_bounds k in (omega arith, x.1)
 
   -- ---- a node: its name, then its members
+
+  -- of nesting 0 there is none
+  pub node-none : {h at : ℕ} → h ≡ 0 → (m : ℕ) → Node s t h at m → ⊥
+  node-none e m (node f w q) = omega arith
 
   module _ {at : ℕ} {r : Option ℕ} (N : Decides (Name s at) r) where
     pub node-unnamed : {h : ℕ} → r ≡ None → (m : ℕ) → Node s t h at m → ⊥
@@ -71,8 +75,34 @@ module _ {s t : List ℕ} {at : ℕ} {r : Option (Kind × ℕ)} (T : DecidesToke
         go (of_subnode f m v w) = absurd cc
         go (of_close f l) = l
 
+    -- no members start with another token
+    pub members_other : (k ≡ EndNode → ⊥) → (k ≡ BeginNode → ⊥) → (k ≡ Prop → ⊥) → (n : ℕ) → Members s t p d at n → ⊥
+    members_other f g h n x = go (first_of n x)
+      where
+        go : First s t p d k a n → ⊥
+        go (of_property e l m v w) = h e
+        go (of_subnode e m v w) = g e
+        go (of_close e l) = f e
+
+    -- nor with a property behind a subnode
+    pub members_late : k ≡ Prop → p ≡ false → (n : ℕ) → Members s t p d at n → ⊥
+    members_late e f n x = go (first_of n x)
+      where
+        go : First s t p d k a n → ⊥
+        go (of_property g l m v w) = false≢true (sym f ∙ l)
+        go (of_subnode g m v w) = cc
+        go (of_close g l) = cc
+
     -- a subnode, and what is left behind it
     module _ (e : k ≡ BeginNode) {o : Option ℕ} (N : Decides (Node s t d a) o) where
+      pub members_no-node : o ≡ None → (n : ℕ) → Members s t p d at n → ⊥
+      members_no-node h n x = go (first_of n x)
+        where
+          go : First s t p d k a n → ⊥
+          go (of_property f l m v w) = cc
+          go (of_subnode f m v w) = never N h m v
+          go (of_close f l) = cc
+
       pub members_node : {m : ℕ} → o ≡ Some m → Same (Members s t p d at) (Members s t false d m)
       members_node {m} h = record { to = λ n x. go (first_of n x); from = λ n x. subnode (token_is T q e) (holds N h) x }
         where

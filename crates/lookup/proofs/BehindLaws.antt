@@ -49,6 +49,10 @@ skip-named N h i B =
       bounds = λ n e. let c = B.bounds n e in (omega arith, c.1);
     }
 
+-- where nothing is behind it there is none
+pub nowhere_none : {s t : List ℕ} {d at n : ℕ} {r : Option ℕ} → BehindNode s d at r → r ≡ None → Node s t d at n → ⊥
+nowhere_none {t = t} {n = n} B e x = let y = B.finds t n x in let z : ◌≡◌ {A = ℕ} 0 1 = cc in omega arith
+
 -- ---- members
 
 pub behind-none : {s : List ℕ} {d at p : ℕ} → Goes s d at p → Stops s d p → BehindMembers s d at None

@@ -35,6 +35,17 @@ use Rattle.destination.proofs.Laws.{outcome_at, outcome_placed}
 
 -- ---- the call
 
+-- the rule's relocation of any list comes to what the place of its used bytes does
+pub rule-placed : (a : List ℕ) (base : ℕ) (target : List ℕ) (target_base : ℕ) (h : Header) → h ≡ header_of a → let len = length target in
+    relocate a base target target_base
+    ≡ outcome_at (λ (by : ℕ). target_bytes a by len) (placed (2 ^ h.alignment) base 0 target_base len h.used_size)
+unfolding relocate move_to shift
+rule-placed a base target target_base h e =
+    let len : ℕ = length target in
+    let by : ℕ = new_base (2 ^ (header_of a).alignment) base target_base - target_base in
+    rw (e, add-zero)
+    (outcome_placed (refuses_target target_base len) (ltb len (by + (header_of a).used_size)) by (λ (by : ℕ). target_bytes a by len))
+
 -- of a list whose survey for an edit is accepted
 module _ (a : List ℕ) (base : ℕ) (w : Wanted) (s : Surveyed) (k : survey_of true a base w ≡ Ok s) where
   admits : Admitted a base s.header
@@ -61,13 +72,8 @@ module _ (a : List ℕ) (base : ℕ) (w : Wanted) (s : Surveyed) (k : survey_of 
   pub relocate-placed : (target : List ℕ) (target_base : ℕ) (p : Result ℕ Refusal)
       → p ≡ placed (2 ^ s.header.alignment) base 0 target_base (length target) s.header.used_size
       → run (to_relocate target target_base) a base ≡ outcome_at (λ (by : ℕ). target_bytes a by (length target)) p
-  unfolding relocate move_to shift
   relocate-placed target target_base p e =
-      let by : ℕ = new_base (2 ^ (header_of a).alignment) base target_base - target_base in
-      simp (accepted true a base w s k).checked
-      (rw (e, read, add-zero)
-      (outcome_placed (refuses_target target_base (length target)) (ltb (length target) (by + (header_of a).used_size)) by
-      (λ (by : ℕ). target_bytes a by (length target))))
+      simp (accepted true a base w s k).checked (rw e (rule-placed a base target target_base s.header read))
 
 -- ---- lists
 

@@ -1,7 +1,8 @@
 -- Recovery's decision, record by record from the last, comes to the rules'.
-use mathlib.Core.Path.{◌≡◌, refl, sym, ap}
+use mathlib.Core.Path.{◌≡◌, refl, sym, ap, ◌∙◌}
 use Prim.Native.Nat.{ℕ, zero, suc, ◌+◌, ◌-◌, ◌*◌, ◌/◌, ◌≤◌, ◌<◌}
 use native.Mathlib.Omega.{arith}
+use native.Mathlib.Nat.{add-zero}
 use mathlib.Core.Bool.{Bool, true, false, ◌&&◌, cond}
 use Rattle.std.specs.Prelude.{Option, None, Some, option_map}
 use mathlib.Core.List.{List, ◌∷◌, ◌++◌}
@@ -26,6 +27,21 @@ use Rattle.steps.specs.Begin.{verdict_of, with_misfit, with_record, begin_with}
 pub kinds_listed : (most n i : ℕ) (j : List ℕ) → list_all (λ k. leb (kind j k) most) (range_with_len i n) ≡ kinds_up_to most n j i
 kinds_listed most zero i j = refl
 kinds_listed most (suc n) i j = ap (λ (b : Bool). leb (kind j i) most && b) (kinds_listed most n (i + 1) j)
+
+-- and one record more behind n of them
+pub kinds_next : (most n i : ℕ) (j : List ℕ) → (leb (kind j (i + n)) most && kinds_up_to most n j i) ≡ kinds_up_to most (n + 1) j i
+kinds_next most zero i j = rw add-zero refl
+kinds_next most (suc n) i j =
+    let e : i + suc n ≡ i + 1 + n = omega arith in
+    let f : suc n + 1 ≡ suc (n + 1) = omega arith in
+    rw (e, f) (swap (leb (kind j (i + 1 + n)) most) (leb (kind j i) most) (kinds_up_to most n j (i + 1))
+    ∙ ap (λ (b : Bool). leb (kind j i) most && b) (kinds_next most n (i + 1) j))
+  where
+    swap : (a b c : Bool) → (a && (b && c)) ≡ (b && (a && c))
+    swap true true c = refl
+    swap true false c = refl
+    swap false true c = refl
+    swap false false c = refl
 
 -- ---- the verdict
 

@@ -17,15 +17,20 @@ use words::Edit;
 fn kinds_up_to(most: u8, journal: &[u8]) -> bool
     ensures { result ≡ kinds_up_to most (records journal.now) journal.now 0 }
 {
-    (0..records::records(journal)).all(|i| records::kind(journal, i) <= most)
+    // All records, also behind the first that is too high: the compiler then tests many at once, which it does not with `all`.
+    let mut low = true;
+    for i in 0..records::records(journal) {
+        low = (records::kind(journal, i) <= most) & low;
+    }
+    low
 }
 
 // Whether a word at this offset lies in an area of len bytes, at a multiple of 8.
-fn fits_in(len: usize, offset: u32) -> bool
+pub(crate) fn fits_in(len: usize, offset: u32) -> bool
     ensures { result ≡ fits_in len offset }
 {
     let end = offset as usize + 8;
-    (offset % 8 == 0) & (end <= len)
+    offset % 8 == 0 && end <= len
 }
 
 // What all whole records say of an area of len bytes, found from the last to the first.
@@ -34,8 +39,7 @@ fn verdict(journal: &[u8], len: usize) -> Verdict
 {
     let mut v = Verdict::Nothing;
     for i in (0..records::records(journal)).rev() {
-        let fits = fits_in(len, records::offset(journal, i));
-        v = v.with_record(records::kind(journal, i), fits);
+        v = v.with_record(journal, i, len);
     }
     v
 }

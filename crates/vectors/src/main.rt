@@ -17,10 +17,20 @@ use steps::{Stepped, Steps, advance, begin, whole};
 use walk::format::Format::{self, Current, Edition09};
 
 // Why the text ends early: the output fails, or a call is refused that only makes an example's list.
-#[derive(Clone, Copy, Debug)]
+#[derive(Clone, Copy)]
 enum Stop {
     Output(io::Error),
     Refused(Refusal),
+}
+
+// What `main` says of it is what the error itself says.
+impl fmt::Debug for Stop {
+    fn fmt<W: fmt::Write>(&self, f: &mut fmt::Formatter<W>) -> fmt::Result {
+        match self {
+            Stop::Output(e) => write!(f, "{e:?}"),
+            Stop::Refused(r) => write!(f, "{r:?}"),
+        }
+    }
 }
 
 impl From<io::Error> for Stop {

@@ -146,7 +146,11 @@ pub fn copy_part(a: &mut [u8], at: usize, src: &[u8])
     requires { at + length src.now ≤ length a.old }
     ensures { a.new ≡ splice a.old at src.now }
 {
-    a[at..at + src.len()].copy_from_slice(src);
+    // Byte by byte: the compiler makes no call of the C library of this loop; `copy_from_slice` is one of memmove.
+    let part = &mut a[at..at + src.len()];
+    for i in 0..src.len() {
+        part[i] = src[i];
+    }
 }
 
 // The byte at a place, 0 behind the end.

@@ -3,8 +3,11 @@ use mathlib.Core.Path.{◌≡◌, refl, sym, ◌∙◌}
 use Prim.Native.Nat.{ℕ, zero, suc, ◌+◌, ◌-◌, ◌/◌, ◌%◌, ◌≤◌, ◌<◌}
 use native.Mathlib.Omega.{arith}
 use mathlib.Core.Logic.{◌⊎◌, inl, inr}
+use mathlib.Core.Bool.{Bool, true, false, ◌&&◌}
 use mathlib.Core.List.{List, [], ◌∷◌, ◌++◌}
 use lib.ListN.{length, get_or, set, replicate, length-set, length-replicate, get_or-append}
+use lib.Dec.{leb, ltb}
+use borrow.Author.Tests.{leb-true, leb-false, ltb-true, ltb-false}
 use lib.Seq.{get_or-append-add, get_or-set_other, get_or-set_same}
 use Rattle.std.specs.Int.{w32, to_le_bytes}
 use Rattle.std.proofs.lemmas.Bool.{cases_lt}
@@ -14,10 +17,26 @@ use Rattle.wire.proofs.Splice.{splice-set, length-splice, get_or-splice_before, 
 use Rattle.rules.specs.Header.{header_size}
 use Rattle.rules.specs.Entries.{entry_header}
 use Rattle.laws.proofs.EntryBytes.{length-entry_header}
+use Rattle.journal.proofs.Clearing.{and_left, and_right}
 use Rattle.plan.specs.declared.Plan.{Plan}
 use Rattle.plan.specs.Plan.{void_header, whole_void, void_span, stretch_of, stretch_length, fields_after, after}
 use Rattle.plan.proofs.Laws.{whole-void, header_span_le, length-whole_void, length-stretch_of}
 use Rattle.words.specs.Words.{Writable}
+
+-- ---- a test of two bounds
+
+-- where it holds, i is low or more and under high
+pub between : (low high i : ℕ) → (leb low i && ltb i high) ≡ true → (low ≤ i) × (i < high)
+between low high i t =
+    (leb-true low i (and_left (leb low i) (ltb i high) t), ltb-true i high (and_right (leb low i) (ltb i high) t))
+
+-- where it fails, i is under low, or high or more
+pub apart : (low high i : ℕ) → (leb low i && ltb i high) ≡ false → (i < low) ⊎ (high ≤ i)
+apart low high i = go (leb low i) refl
+  where
+    go : (b : Bool) → leb low i ≡ b → (b && ltb i high) ≡ false → (i < low) ⊎ (high ≤ i)
+    go true e t = inr (ltb-false i high t)
+    go false e t = inl (leb-false low i e)
 
 -- ---- lists
 

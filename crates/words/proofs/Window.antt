@@ -6,8 +6,8 @@ use mathlib.Core.Logic.{◌⊎◌, inl, inr}
 use mathlib.Core.Bool.{Bool, true, false, cond, ◌&&◌}
 use mathlib.Core.List.{List, [], ◌∷◌, ◌++◌, append-nil}
 use lib.ListN.{length, get_or}
-use lib.Dec.{ltb, eqb}
-use borrow.Author.Tests.{eq-eqb, ltb-true, ltb-false}
+use lib.Dec.{leb, ltb, eqb}
+use borrow.Author.Tests.{eq-eqb, le-leb, lt-ltb, ltb-true, ltb-false}
 use Rattle.journal.specs.Journal.{part, Word, alike, words_from, changed_words}
 use Rattle.journal.proofs.Clearing.{and_left}
 use Rattle.std.specs.List.{find, filter, list_all, range_with_len}
@@ -18,8 +18,8 @@ use native.Mathlib.Nat.{add-zero}
 use Rattle.plan.specs.declared.Plan.{Plan}
 use Rattle.plan.specs.Plan.{stretch_length, after}
 use Rattle.plan.proofs.Laws.{header_span_le}
-use Rattle.words.specs.Words.{Writable, next_offset}
-use Rattle.words.proofs.Laws.{after_outside}
+use Rattle.words.specs.Words.{Writable, next_offset, skip_to}
+use Rattle.words.proofs.Laws.{between, after_outside}
 
 -- ---- any two areas
 
@@ -141,20 +141,43 @@ module _ (old new : List ℕ) where
 
 -- ---- the window
 
+-- no word changes from at up to `to`, a whole number of words inside the area
+pub record Skipped (old new : List ℕ) (at to : ℕ) : Type 0 where
+  pub on : at ≤ to
+  pub inside : to ≤ length old
+  pub eights : to % 8 ≡ 0
+  pub words : words_at old new at ≡ words_at old new to
+
 module _ (p : Plan) (a content : List ℕ) (w : Writable p (length a) (length content)) where
   -- a word behind the header fields and outside the stretch does not change
   kept : (at : ℕ) → 12 ≤ at → (at + 8 ≤ p.at) ⊎ (p.at + stretch_length p (length content) ≤ at) → alike a (after p a content) at 8 ≡ true
   kept at l (inl h) = alike_all 8 a (after p a content) at (λ i g f. sym (after_outside p a content w i (omega arith) (inl (omega arith))))
   kept at l (inr h) = alike_all 8 a (after p a content) at (λ i g f. sym (after_outside p a content w i (omega arith) (inr (omega arith))))
 
-  -- none does from word 2 on to the stretch
+  -- none does from the header's words on to the stretch
+  pub skipped : (at to : ℕ) → at ≤ length a → at % 8 ≡ 0 → to ≡ skip_to at p.at → Skipped a (after p a content) at to
+  skipped at to l m e = rw e (go (leb 16 at && ltb at p.at) refl)
+    where
+      go : (b : Bool) → (leb 16 at && ltb at p.at) ≡ b → Skipped a (after p a content) at (cond b p.at at)
+      go true t =
+          let b = between 16 p.at at t in
+          record {
+            on = omega arith;
+            inside = omega arith;
+            eights = w.eights;
+            words =
+                words-run a (after p a content) ((p.at - at) / 8) at p.at (omega arith) (omega arith)
+                (λ i h g. kept i (omega arith) (inl g));
+          }
+      go false t = record { on = omega arith; inside = l; eights = m; words = refl }
+
+  -- so none from word 2 on to the stretch
   gap : (k to : ℕ) → 2 ≤ k → to ≡ max k (p.at / 8) → words_at a (after p a content) (8 * k) ≡ words_at a (after p a content) (8 * to)
   gap k to l e = elim (cases_lt k (p.at / 8)) [
     | inl h ↦
-        let f : to ≡ p.at / 8 = omega arith in
-        rw f
-        (words-run a (after p a content) (p.at / 8 - k) (8 * k) (8 * (p.at / 8)) (omega arith) (omega arith)
-        (λ i h g. kept i (omega arith) (inl (omega arith))))
+        let f : 8 * to ≡ p.at = omega arith in
+        let s : p.at ≡ skip_to (8 * k) p.at = rw (le-leb 16 (8 * k) (omega arith), lt-ltb (8 * k) p.at (omega arith)) refl in
+        rw f (skipped (8 * k) p.at (omega arith) (omega arith) s).words
     | inr h ↦ let f : to ≡ k = omega arith in rw f refl
   ]
 

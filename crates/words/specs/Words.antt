@@ -1,5 +1,5 @@
 -- Which plans can be written into an area, and the first of some words.
-use Rattle.std.specs.Prelude.{◌≡◌, ℕ, ◌+◌, ◌%◌, ◌^◌, ◌≤◌, ◌<◌, List, [], ◌∷◌}
+use Rattle.std.specs.Prelude.{◌≡◌, ℕ, ◌+◌, ◌%◌, ◌^◌, ◌≤◌, ◌<◌, cond, ◌&&◌, List, [], ◌∷◌, leb, ltb}
 use Rattle.rules.specs.Header.{header_size, entry_header_size}
 use Rattle.journal.specs.Journal.{Word}
 use Rattle.plan.specs.declared.Plan.{Plan}
@@ -18,3 +18,7 @@ pub record Writable (p : Plan) (len n : ℕ) : Type 0 where
 abbrev pub next_offset : ℕ → List Word → ℕ
 next_offset len [] = len
 next_offset len (w ∷ ws) = w.offset
+
+-- from the header's words on to the stretch
+abbrev pub skip_to : ℕ → ℕ → ℕ
+skip_to at stretch = cond (leb 16 at && ltb at stretch) stretch at

@@ -17,17 +17,17 @@ find_place-requires c =
 
 pub returns-in_err-shift : goal.returns-in_err-shift
 returns-in_err-shift c =
-    let e = relocate-placed _ _ _ _ (sym c.survey.ensures ∙ c.in_ok-h.was) c.args.target.now c.args.target_base _ c.find_place.ensures in
+    let p = relocate-placed _ _ _ _ (sym c.survey.ensures ∙ c.in_ok-h.was) c.args.target.now c.args.target_base _ c.find_place.ensures in
     record {
-      value = rw (e, c.in_err-shift.was) (passed_up c.from_residual-in_err-shift.ensures.1);
-      target_after = rw (e, c.in_err-shift.was);
+      value = rw (p, c.in_err-shift.was) (passed_up c.from_residual-in_err-shift.ensures.1);
+      target_after = rw (p, c.in_err-shift.was);
     }
 
 pub write_target-requires : goal.write_target-requires
 write_target-requires c =
-    let k = sym c.survey.ensures ∙ c.in_ok-h.was in
+    let s = sym c.survey.ensures ∙ c.in_ok-h.was in
     let f = placed-room _ _ _ _ (length c.args.target.now) c.in_ok-h.field-0.header.used_size _ (sym c.find_place.ensures ∙ c.in_ok-shift.was) in
-    (λ i. omega (arith, c.type_inv.area i), summed _ _ _ _ k, low _ _ _ _ k, f.room, omega (arith, f.short))
+    (λ i. omega (arith, c.type_inv.area i), summed _ _ _ _ s, low _ _ _ _ s, f.room, omega (arith, f.short))
 
 pub returns : goal.returns
 returns c =

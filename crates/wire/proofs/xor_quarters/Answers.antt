@@ -1,8 +1,15 @@
 -- The invariant: x folds to the exclusive or of the first i words of all four quarters. At the end the quarters stand one behind the other.
-use Rattle.std.proofs.Common.{sym, arith, rules}
+use Rattle.std.proofs.Common.{◌≡◌, ℕ, ◌≤◌, List, ◌++◌, length, sym, ◌∙◌, arith, rules}
+use Rattle.std.specs.List.{concat}
 use Rattle.wire.specs.Bytes.{le_bytes, xor}
-use Rattle.wire.proofs.Fold.{fold-xor, xor-words, first_words-all, four-next}
+use Rattle.wire.proofs.Fold.{fold-xor, xor-words, first_words, first_words-all, of_four, four-next}
 use Rattle.wire.proofs.xor_quarters.Goals as goal
+
+-- all words of four quarters
+four-all : (i : ℕ) (p q r s : List (List ℕ)) → length p ≤ i → length q ≤ i → length r ≤ i → length s ≤ i
+    → of_four (first_words i) p q r s ≡ xor (concat (p ++ (q ++ (r ++ s))))
+four-all i p q r s lp lq lr ls =
+    rw (first_words-all i p lp, first_words-all i q lq, first_words-all i r lr, first_words-all i s ls, xor-words, xor-words, xor-words)
 
 pub loop-i-init : goal.loop-i-init
 unfolding xor le_bytes
@@ -16,20 +23,6 @@ loop-i-preserved c =
 
 pub returns : goal.returns
 returns c =
-    let i = c.loop-i.i in
-    let first = c.split_at in
-    let second = c.split_at-2 in
-    let third = c.split_at-3 in
-    rw (
-      c.loop-i.invariant,
-      first_words-all i first.result.0.now (omega arith),
-      first_words-all i second.result.0.now (omega arith),
-      first_words-all i third.result.0.now (omega arith),
-      first_words-all i third.result.1.now (omega arith),
-      first.ensures.by_index.0,
-      second.ensures.by_index.0,
-      third.ensures.by_index.0,
-      xor-words,
-      xor-words,
-      xor-words,
-    )
+    c.loop-i.invariant
+    ∙ four-all c.loop-i.i _ _ _ _ (omega arith) (omega arith) (omega arith) (omega arith)
+    ∙ rw (c.split_at.ensures.by_index.0, c.split_at-2.ensures.by_index.0, c.split_at-3.ensures.by_index.0)

@@ -1,20 +1,10 @@
--- The library's test of all records, record by record as the rules put it.
-use mathlib.Core.Path.{refl, ◌∙◌}
-use lib.Dec.{leb}
-use Prim.Native.Nat.{ℕ}
-use borrow.Author.Tests.{tests}
-use native.Mathlib.Nat.{sub-zero}
-use Rattle.std.proofs.Common.{rules}
-use Rattle.std.proofs.lemmas.Iterator.{YieldsList-from_range}
-use Rattle.std.proofs.lemmas.Iterator.Search.{all_from_yields_List}
-use Rattle.journal.specs.Journal.{records, kind}
-use Rattle.steps.proofs.Decision.{kinds_listed}
+-- The invariant: low is the test of the records before the index. A turn adds one record behind them.
+use Rattle.std.proofs.Common.{◌≡◌, ◌+◌, arith}
+use Rattle.steps.proofs.Decision.{kinds_next}
 use Rattle.steps.proofs.begin.kinds_up_to.Goals as goal
 
-pub returns : goal.returns
-returns c =
-    let j = c.args.journal.now in
-    let low = λ (i : ℕ). leb (kind j i) c.args.most in
-    let each = YieldsList-from_range 0 c.records.result (records j) refl (sub-zero c.records.result ∙ c.records.ensures) in
-    all_from_yields_List low _ _ c.all.result c.all.ensures.ran each (λ x b q k. search (rules, tests))
-    ∙ kinds_listed c.args.most (records j) 0 j
+pub loop-i-preserved : goal.loop-i-preserved
+loop-i-preserved c =
+    let l = c.loop-i in
+    let e : 0 + l.i ≡ l.i = omega arith in
+    rw (c.kind.ensures, l.invariant) (rw e at (kinds_next c.args.most l.i 0 c.args.journal.now))

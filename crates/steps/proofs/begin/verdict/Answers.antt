@@ -8,5 +8,5 @@ pub loop-i-preserved : goal.loop-i-preserved
 loop-i-preserved c =
     let j = c.args.journal.now in
     let l = c.loop-i in
-    rw (c.with_record-v.ensures, c.fits_in-fits.ensures, c.offset.ensures, c.kind.ensures)
+    rw c.with_record-v.ensures
     (verdict_back c.args.len (records j) l.i l.v j (omega arith) (omega arith) l.invariant)

@@ -6,5 +6,5 @@ use Rattle.wire.proofs.U64Number.write.Goals as goal
 
 pub returns : goal.returns
 returns c =
-    put_mid-splice _ _ _ _ _ (c.copy_from_slice.ensures.after ∙ c.to_le_bytes-bytes.ensures ∙ to_le_bytes-64 c.args.self)
+    put_mid-splice _ _ _ _ _ (c.copy_from_slice.ensures.after ∙ rw c.to_le_bytes-bytes.ensures (to_le_bytes-64 c.args.self))
     (omega (arith, length-le_bytes 8 c.args.self))
